@@ -1,0 +1,5 @@
+pub mod Few
+pub mod Rule
+pub mod Lists
+pub mod Reply
+pub mod Pass

@@ -1,0 +1,2 @@
+pub mod Module
+pub mod Discipline
