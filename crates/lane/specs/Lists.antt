@@ -17,6 +17,10 @@ abbrev pub after : {S : Type 0} → Rule S → S → List Item → S
 after rule s [] = s
 after rule s (x ∷ xs) = after rule (rule .does s x .state) xs
 
+-- what comes out of a lane for a list: what is ready already, and then the list stepped
+abbrev pub emits : {S : Type 0} → Rule S → Held S → List Item → List Item
+emits rule h xs = h .ready ++ stepped rule (h .state) xs
+
 -- a list stepped through a lane, from its first state
 abbrev pub through : {S : Type 0} → Rule S → List Item → List Item
 through rule xs = stepped rule (rule .first) xs

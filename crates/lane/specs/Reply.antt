@@ -25,12 +25,18 @@ pub record ReplyRule (S : Type 0) : Type 0 where
 abbrev pub begun : {S : Type 0} → ReplyRule S → Both S
 begun rule = both (rule .first) [] []
 
--- the two rules in it: what goes on, and what goes back
+-- the two lanes in it: the one whose ready list goes on, and the one whose ready list goes back
+abbrev pub ahead : {S : Type 0} → Both S → Held S
+ahead h = holding (h .state) (h .ready)
+
+abbrev pub behind : {S : Type 0} → Both S → Held S
+behind h = holding (h .state) (h .reply)
+
 abbrev pub onward : {S : Type 0} → ReplyRule S → Rule S
-onward rule = record { first = rule .first; does = λ s x. holding (rule .does s x .state) (rule .does s x .ready) }
+onward rule = record { first = rule .first; does = λ s x. ahead (rule .does s x) }
 
 abbrev pub back : {S : Type 0} → ReplyRule S → Rule S
-back rule = record { first = rule .first; does = λ s x. holding (rule .does s x .state) (rule .does s x .reply) }
+back rule = record { first = rule .first; does = λ s x. behind (rule .does s x) }
 
 -- a rule with no replies
 abbrev pub silent : {S : Type 0} → Rule S → ReplyRule S

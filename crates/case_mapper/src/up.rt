@@ -1,0 +1,89 @@
+// The lane that goes up: back to small letters, capitals and the six characters.
+ghost use mathlib.Core.Path.{_≡_};
+ghost use mathlib.Core.Bool.{Bool};
+ghost use Rattle.lane.specs.Few.{items};
+ghost use Rattle.lane.specs.Rule.{holding};
+ghost use Rattle.case_mapper.specs.Case.{byte-after, gives-up, holds-after, up-rule};
+use crate::partner::meant_by;
+use item::Item;
+use item::Refusal;
+use lane::Lane;
+use lane::few::Few;
+
+/// What a byte becomes after a backslash.
+fn after_backslash(c: u8) -> Few
+    ensures value { λ r. ⌜ items r ≡ byte-after c ⌝ }
+{
+    match c {
+        b'a'..=b'z' => Few::One(Item::Byte(c - 32)),
+        b'A'..=b'Z' => Few::One(Item::Byte(c)),
+        _ => match meant_by(c as char) {
+            Some(p) => Few::One(Item::Byte(p as u8)),
+            None => Few::Two(Item::Byte(b'\\'), Item::Byte(c)),
+        },
+    }
+}
+
+/// What an item becomes, after a held backslash or not.
+fn read(held: bool, x: Item) -> Few
+    ensures value { λ r. ⌜ items r ≡ gives-up held x ⌝ }
+{
+    match (held, x) {
+        (false, Item::Byte(b'\\')) => Few::Zero,
+        (false, Item::Byte(c)) => match c {
+            b'A'..=b'Z' => Few::One(Item::Byte(c + 32)),
+            _ => Few::One(x),
+        },
+        (false, _) => Few::One(x),
+        (true, Item::Byte(c)) => after_backslash(c),
+        (true, _) => Few::Two(Item::Byte(b'\\'), x),
+    }
+}
+
+/// Whether a backslash is held then.
+fn holds_backslash(held: bool, x: Item) -> bool
+    ensures value { λ r. ⌜ r ≡ holds-after held x ⌝ }
+{
+    match (held, x) {
+        (false, Item::Byte(b'\\')) => true,
+        _ => false,
+    }
+}
+
+#[derive(Clone, Copy)]
+pub struct CaseUp {
+    held: bool,
+    ready: Few,
+}
+
+pub impl Lane for CaseUp as CaseUpLane {
+    ghost State = { Bool };
+
+    ghost rule = { up-rule };
+
+    ghost holds = { λ l. holding (l .held) (items (l .ready)) };
+
+    fn new() -> CaseUp {
+        CaseUp {
+            held: false,
+            ready: Few::Zero,
+        }
+    }
+
+    fn step(&mut self, x: Item) -> Result<(), Refusal> {
+        let Few::Zero = self.ready else {
+            return Err(Refusal::NoSpace);
+        };
+        self.ready = read(self.held, x);
+        self.held = holds_backslash(self.held, x);
+        Ok(())
+    }
+
+    fn first(&self) -> Option<Item> {
+        self.ready.first()
+    }
+
+    fn take(&mut self) -> Option<Item> {
+        self.ready.take()
+    }
+}
