@@ -1,8 +1,8 @@
 // The lanes that go down: to capitals, and a backslash before what would be lost.
 ghost use mathlib.Core.Path.{_≡_};
 ghost use Rattle.lane.specs.Few.{items};
-ghost use Rattle.lane.specs.Rule.{holding};
 ghost use Rattle.case_mapper.specs.Case.{byte-down, down-rule};
+ghost use Rattle.case_mapper.specs.Views.{down-held};
 use crate::partner::sign_of;
 use item::Item;
 use item::Refusal;
@@ -33,7 +33,7 @@ pub impl Lane for CaseDown as CaseDownLane {
 
     ghost rule = { down-rule };
 
-    ghost holds = { λ l. holding tt (items (l .ready)) };
+    ghost holds = { down-held };
 
     fn new() -> CaseDown {
         CaseDown { ready: Few::Zero }

