@@ -4,7 +4,7 @@ use mathlib.Core.List.{List, []}
 use Rattle.item.specs.declared.Item.{Item}
 use Rattle.lane.specs.Rule.{Held, holding, started}
 use Rattle.lane.specs.Reply.{Both, both, begun, onward, back, ahead, behind}
-use Rattle.lane.specs.Lists.{emits, after}
+use Rattle.lane.specs.Lists.{onto, emits, after}
 use Rattle.case_mapper.specs.Case as mapper
 use Rattle.case_mapper.specs.Views as mapper-lane
 use Rattle.disciplines.specs.Canonical as canonical
@@ -25,12 +25,12 @@ handed-up d xs = emits mapper.up-rule (mapper-lane.up-held (d .mapper .up)) xs
 abbrev pub echoed : Desk → List Item → List Item
 echoed d xs = emits (back canonical.up-rule) (behind (canonical-lane.up-held (d .discipline .up))) (handed-up d xs)
 
--- what the reader gets for some typed items, and what the screen shows
-abbrev pub read-list : Desk → List Item → List Item
-read-list d xs = emits (onward canonical.up-rule) (ahead (canonical-lane.up-held (d .discipline .up))) (handed-up d xs)
+-- what the reader has, and what the screen shows, once some items are typed
+abbrev pub reader-has : Desk → List Item → List Item → List Item
+reader-has d xs out = onto out (onward canonical.up-rule) (ahead (canonical-lane.up-held (d .discipline .up))) (handed-up d xs)
 
-abbrev pub screen-list : Desk → List Item → List Item
-screen-list d xs = emits mapper.echo-rule (mapper-lane.down-held (d .mapper .echo)) (echoed d xs)
+abbrev pub screen-shows : Desk → List Item → List Item → List Item
+screen-shows d xs out = onto out mapper.echo-rule (mapper-lane.down-held (d .mapper .echo)) (echoed d xs)
 
 -- the terminal after them: nothing is ready, and each lane is in the state after what it was given
 pub record Typed (d : Desk) (xs : List Item) (e : Desk) : Type 0 where

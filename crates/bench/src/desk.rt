@@ -1,9 +1,8 @@
 // The terminal: the canonical discipline over the case mapper.
 ghost use mathlib.Core.Path.{_≡_};
-ghost use mathlib.Core.List.{_++_};
 ghost use Rattle.std.specs.Of.Vec.{vec-items};
 ghost use Rattle.std.specs.Vec.{made};
-ghost use Rattle.bench.specs.Desk.{Started, read-list, screen-list, Typed};
+ghost use Rattle.bench.specs.Desk.{Started, reader-has, screen-shows, Typed};
 use case_mapper::CaseMapper;
 use case_mapper::down::CaseDownLane;
 use case_mapper::up::CaseUpLane;
@@ -44,8 +43,8 @@ impl Desk {
         reader: &mut Vec<Item>,
         screen: &mut Vec<Item>,
     ) -> Result<(), AllocError>
-        ensures reads { λ r. ⌜ made r (λ _. vec-items (now (reader .exit)) ≡ vec-items (now (reader .entry)) ++ read-list (now (self .entry)) (now (given .entry))) ⌝ }
-        ensures shows { λ r. ⌜ made r (λ _. vec-items (now (screen .exit)) ≡ vec-items (now (screen .entry)) ++ screen-list (now (self .entry)) (now (given .entry))) ⌝ }
+        ensures reads { λ r. ⌜ made r (λ _. vec-items (now (reader .exit)) ≡ reader-has (now (self .entry)) (now (given .entry)) (vec-items (now (reader .entry)))) ⌝ }
+        ensures shows { λ r. ⌜ made r (λ _. vec-items (now (screen .exit)) ≡ screen-shows (now (self .entry)) (now (given .entry)) (vec-items (now (screen .entry)))) ⌝ }
         ensures leaves { λ r. ⌜ made r (λ _. Typed (now (self .entry)) (now (given .entry)) (now (self .exit))) ⌝ }
     {
         let mut line = Vec::new(heap);

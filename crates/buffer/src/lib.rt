@@ -4,7 +4,7 @@
 ghost use mathlib.Core.Path.{_≡_};
 ghost use mathlib.Core.List.{[], _∷_, _++_};
 ghost use mathlib.Core.Bool.{cond};
-ghost use Prim.Native.Nat.{_-_, _≤_};
+ghost use Prim.Native.Nat.{_-_, _<_, _≤_};
 ghost use lib.Dec.{ltb};
 ghost use lib.ListN.{length, take};
 ghost use Rattle.buffer.specs.Held.{held};
@@ -25,13 +25,7 @@ impl<const N: usize> Buffer<N> {
         }
     }
 
-    pub fn clear(&mut self)
-        ensures empty { λ _. ⌜ held (now (self .exit)) ≡ [] ⌝ }
-    {
-        self.len = 0;
-    }
-
-    // All N bytes; it also says that there are N.
+    // N, which is how many bytes there are.
     fn capacity(&self) -> usize
         ensures value { λ r. ⌜ r ≡ N ⌝ }
         ensures long { λ r. ⌜ length (now (self .entry) .bytes) ≡ N ⌝ }
@@ -42,7 +36,7 @@ impl<const N: usize> Buffer<N> {
 
     pub fn len(&self) -> usize
         ensures value { λ r. ⌜ r ≡ length (held (now (self .entry))) ⌝ }
-        ensures within { λ r. ⌜ r ≤ length (now (self .entry) .bytes) ⌝ }
+        ensures within { λ r. ⌜ r ≤ N ⌝ }
     {
         self.len.min(self.capacity())
     }
@@ -50,9 +44,26 @@ impl<const N: usize> Buffer<N> {
     pub fn as_slice(&self) -> &[u8]
         ensures value { λ r. ⌜ now r ≡ held (now (self .entry)) ⌝ }
     {
-        let len = self.len();
         let whole = &self.bytes[..];
+        let len = self.len.min(whole.len());
         &whole[0..len]
+    }
+
+    // Adds a byte behind the others, where there is room.
+    fn append(&mut self, b: u8)
+        requires { ⌜ length (held (now self)) < N ⌝ }
+        ensures appends { λ _. ⌜ held (now (self .exit)) ≡ held (now (self .entry)) ++ (b ∷ []) ⌝ }
+    {
+        let len = self.len();
+        self.bytes[len] = b;
+        self.len = len + 1;
+    }
+
+    // Keeps the first n bytes.
+    fn keep(&mut self, n: usize)
+        ensures keeps { λ _. ⌜ held (now (self .exit)) ≡ take n (held (now (self .entry))) ⌝ }
+    {
+        self.len = self.len().min(n);
     }
 
     /// Adds a byte behind the others; false, and no change, where N are held.
@@ -60,9 +71,8 @@ impl<const N: usize> Buffer<N> {
         ensures room { λ r. ⌜ r ≡ ltb (length (held (now (self .entry)))) N ⌝ }
         ensures pushes { λ r. ⌜ held (now (self .exit)) ≡ cond r (held (now (self .entry)) ++ (b ∷ [])) (held (now (self .entry))) ⌝ }
     {
-        if self.len < self.capacity() {
-            self.bytes[self.len] = b;
-            self.len += 1;
+        if self.len() < N {
+            self.append(b);
             true
         } else {
             false
@@ -73,6 +83,12 @@ impl<const N: usize> Buffer<N> {
     pub fn pop(&mut self)
         ensures pops { λ _. ⌜ held (now (self .exit)) ≡ take (length (held (now (self .entry))) - 1) (held (now (self .entry))) ⌝ }
     {
-        self.len = self.len().saturating_sub(1);
+        self.keep(self.len().saturating_sub(1));
+    }
+
+    pub fn clear(&mut self)
+        ensures empty { λ _. ⌜ held (now (self .exit)) ≡ [] ⌝ }
+    {
+        self.len = 0;
     }
 }

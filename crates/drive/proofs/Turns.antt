@@ -3,7 +3,7 @@ use mathlib.Core.Path.{_≡_, refl, sym, ap, _∙_}
 use mathlib.Core.List.{List, [], _∷_, _++_, append-assoc, append-nil}
 use Prim.Native.Nat.{ℕ, _+_, _<_, _≤_}
 use lib.ListN.{length, take, getD}
-use Rattle.std.proofs.shelf.Lists.{take-more, take-all}
+use Rattle.std.proofs.shelf.Lists.{take-more}
 use Rattle.item.specs.declared.Item.{Item}
 use Rattle.lane.specs.Rule.{Rule, Held, holding}
 use Rattle.lane.specs.Reply.{ReplyRule, Both, both, onward, back}
@@ -40,17 +40,6 @@ turn-gives rule s t xs i d base out out′ ready h u r v p = let e = gives-more 
 pub turn-after : {S : Type 0} (rule : Rule S) (s t : S) (xs : List Item) (i : ℕ) (d : Item) → i < length xs →
     t ≡ after rule s (take i xs) → rule .does t (getD xs i d) .state ≡ after rule s (take (i + 1) xs)
 turn-after rule s t xs i d h v = let e = after-more rule s xs i d h in cc
-
--- after the last turn, all of the list has been stepped
-pub end-gives : {S : Type 0} (rule : Rule S) (s t : S) (xs : List Item) (i : ℕ) (base base′ out ready : List Item) → length xs ≤ i →
-    out ≡ base′ ++ stepped rule t (take i xs) → base′ ≡ base ++ ready → t ≡ s → out ≡ base ++ (ready ++ stepped rule s xs)
-end-gives rule s t xs i base base′ out ready h u b e =
-    let all = take-all i xs h in
-    let whole : out ≡ (base ++ ready) ++ stepped rule s xs = cc in
-    whole ∙ append-assoc base ready (stepped rule s xs)
-
-pub end-after : {S : Type 0} (rule : Rule S) (s t : S) (xs : List Item) (i : ℕ) → length xs ≤ i → t ≡ s → after rule t (take i xs) ≡ after rule s xs
-end-after rule s t xs i h e = let all = take-all i xs h in cc
 
 -- both rules of a lane that replies go through the same states
 pub same-states : {S : Type 0} (rule : ReplyRule S) (s : S) (xs : List Item) → after (onward rule) s xs ≡ after (back rule) s xs

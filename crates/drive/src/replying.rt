@@ -2,7 +2,7 @@
 ghost use mathlib.Core.Path.{_≡_};
 ghost use mathlib.Core.List.{[], _++_};
 ghost use Rattle.lane.specs.Reply.{both, ahead, behind, onward, back};
-ghost use Rattle.lane.specs.Lists.{emits, after};
+ghost use Rattle.lane.specs.Lists.{stepped, onto, after};
 ghost use Rattle.std.specs.Of.Vec.{vec-items};
 ghost use Rattle.std.specs.Vec.{made};
 use item::Item;
@@ -63,6 +63,25 @@ fn pass_one<L: ReplyLane>(
     }
 }
 
+// A list is stepped through a lane that has nothing ready.
+fn pass_each<L: ReplyLane>(
+    lane: &mut L,
+    given: &[Item],
+    out: &mut Vec<Item>,
+    replies: &mut Vec<Item>,
+) -> Result<(), AllocError>
+    requires ready { ⌜ L·ReplyLane .holds (now lane) .ready ≡ [] ⌝ }
+    requires reply { ⌜ L·ReplyLane .holds (now lane) .reply ≡ [] ⌝ }
+    ensures gives { λ r. ⌜ made r (λ _. vec-items (now (out .exit)) ≡ vec-items (now (out .entry)) ++ stepped (onward (L·ReplyLane .rule)) (L·ReplyLane .holds (now (lane .entry)) .state) (now (given .entry))) ⌝ }
+    ensures replies { λ r. ⌜ made r (λ _. vec-items (now (replies .exit)) ≡ vec-items (now (replies .entry)) ++ stepped (back (L·ReplyLane .rule)) (L·ReplyLane .holds (now (lane .entry)) .state) (now (given .entry))) ⌝ }
+    ensures leaves { λ r. ⌜ made r (λ _. L·ReplyLane .holds (now (lane .exit)) ≡ both (after (onward (L·ReplyLane .rule)) (L·ReplyLane .holds (now (lane .entry)) .state) (now (given .entry))) [] []) ⌝ }
+{
+    for x in given {
+        pass_one(lane, *x, out, replies)?;
+    }
+    Ok(())
+}
+
 /// A list is stepped through a lane; what goes on goes behind `out`, and what goes back behind `replies`.
 pub fn pass<L: ReplyLane>(
     lane: &mut L,
@@ -70,13 +89,10 @@ pub fn pass<L: ReplyLane>(
     out: &mut Vec<Item>,
     replies: &mut Vec<Item>,
 ) -> Result<(), AllocError>
-    ensures gives { λ r. ⌜ made r (λ _. vec-items (now (out .exit)) ≡ vec-items (now (out .entry)) ++ emits (onward (L·ReplyLane .rule)) (ahead (L·ReplyLane .holds (now (lane .entry)))) (now (given .entry))) ⌝ }
-    ensures replies { λ r. ⌜ made r (λ _. vec-items (now (replies .exit)) ≡ vec-items (now (replies .entry)) ++ emits (back (L·ReplyLane .rule)) (behind (L·ReplyLane .holds (now (lane .entry)))) (now (given .entry))) ⌝ }
+    ensures gives { λ r. ⌜ made r (λ _. vec-items (now (out .exit)) ≡ onto (vec-items (now (out .entry))) (onward (L·ReplyLane .rule)) (ahead (L·ReplyLane .holds (now (lane .entry)))) (now (given .entry))) ⌝ }
+    ensures replies { λ r. ⌜ made r (λ _. vec-items (now (replies .exit)) ≡ onto (vec-items (now (replies .entry))) (back (L·ReplyLane .rule)) (behind (L·ReplyLane .holds (now (lane .entry)))) (now (given .entry))) ⌝ }
     ensures leaves { λ r. ⌜ made r (λ _. L·ReplyLane .holds (now (lane .exit)) ≡ both (after (onward (L·ReplyLane .rule)) (L·ReplyLane .holds (now (lane .entry)) .state) (now (given .entry))) [] []) ⌝ }
 {
     drain(lane, out, replies)?;
-    for x in given {
-        pass_one(lane, *x, out, replies)?;
-    }
-    Ok(())
+    pass_each(lane, given, out, replies)
 }

@@ -17,9 +17,13 @@ abbrev pub after : {S : Type 0} → Rule S → S → List Item → S
 after rule s [] = s
 after rule s (x ∷ xs) = after rule (rule .does s x .state) xs
 
--- what comes out of a lane for a list: what is ready already, and then the list stepped
+-- a list, behind it what is ready at a lane, and behind that what it makes of another list
+abbrev pub onto : {S : Type 0} → List Item → Rule S → Held S → List Item → List Item
+onto out rule h xs = (out ++ h .ready) ++ stepped rule (h .state) xs
+
+-- what comes out of a lane for a list
 abbrev pub emits : {S : Type 0} → Rule S → Held S → List Item → List Item
-emits rule h xs = h .ready ++ stepped rule (h .state) xs
+emits rule h xs = onto [] rule h xs
 
 -- a list stepped through a lane, from its first state
 abbrev pub through : {S : Type 0} → Rule S → List Item → List Item

@@ -1,7 +1,6 @@
 // The bench terminal. What is typed at it comes as standard input, or is a sample line about a lot of butter. For each line
 // it prints what the reader gets, what the screen shows, the frame that goes to the scaler and what the scaler reads from
 // it, also where the frame is damaged on the way. The work is done, and proved, in the crates below; this one prints.
-mod input;
 mod report;
 mod show;
 
@@ -26,7 +25,7 @@ fn type_line(rt: &LibcRuntime, desk: &mut Desk, line: &[u8], number: u64) -> Res
         &mut report.screen,
     )?;
     let count = line.len();
-    println!(rt, "Line {number}, {count} bytes typed")?;
+    println!(rt, "Line {number}, of {count} typed bytes:")?;
     report.print(rt)
 }
 
@@ -38,6 +37,10 @@ fn run(rt: &LibcRuntime) -> Result<(), AnyError> {
     } else {
         bytes.as_slice()
     };
+    println!(
+        rt,
+        "A bench terminal. What cannot be printed is shown as <10>, by its number."
+    )?;
     let mut desk = Desk::new();
     let mut number: u64 = 0;
     while rest.len() > 0 {
@@ -46,7 +49,7 @@ fn run(rt: &LibcRuntime) -> Result<(), AnyError> {
         type_line(rt, &mut desk, line, number)?;
         rest = more;
     }
-    println!(rt, "{number} lines were typed.")?;
+    println!(rt, "Lines typed: {number}")?;
     Ok(())
 }
 

@@ -15,7 +15,7 @@ pub struct Report {
     pub screen: Vec<Item>,
 }
 
-/// A frame in which one bit of the byte at a place came over wrong.
+/// A frame in which the lowest bit of the byte at a place came over wrong.
 fn flipped(heap: Global, frame: &[Item], place: usize) -> Result<Vec<Item>, AllocError> {
     let mut damaged = Vec::new(heap);
     for (i, x) in frame.iter().enumerate() {
@@ -47,13 +47,13 @@ impl Report {
     pub fn print(&self, rt: &LibcRuntime) -> Result<(), AnyError> {
         let heap = rt.alloc();
         let screen = on_screen(heap, self.screen.as_slice())?;
-        println!(rt, "  screen shows   {screen}")?;
+        println!(rt, "  the screen shows  {screen}")?;
         if self.reader.len() == 0 {
-            println!(rt, "  reader gets    nothing")?;
+            println!(rt, "  the reader gets   nothing")?;
             return Ok(());
         }
         let reader = text(heap, self.reader.as_slice())?;
-        println!(rt, "  reader gets    {reader}")?;
+        println!(rt, "  the reader gets   {reader}")?;
         self.print_frame(rt)
     }
 
@@ -63,16 +63,19 @@ impl Report {
         let sent = send_and_read_back(heap, self.reader.as_slice())?;
         let frame = sent.frame.as_slice();
         let line = numbers(heap, frame)?;
-        println!(rt, "  to the scaler  {line}")?;
+        println!(rt, "  to the scaler    {line}")?;
         let back = text(heap, sent.back.as_slice())?;
-        println!(rt, "  scaler reads   {back}")?;
+        println!(rt, "  the scaler reads  {back}")?;
         let place = frame.len() / 2;
         let wrong = flipped(heap, frame, place)?;
         let read = text(heap, read_by_scaler(heap, wrong.as_slice())?.as_slice())?;
-        println!(rt, "  byte {place} wrong  {read}")?;
+        println!(rt, "  with a bit wrong in byte {place}, it reads  {read}")?;
         let twice = cut(heap, frame, place)?;
         let read = text(heap, read_by_scaler(heap, twice.as_slice())?.as_slice())?;
-        println!(rt, "  cut at {place}, sent again  {read}")?;
+        println!(
+            rt,
+            "  cut off after {place} bytes and sent again, it reads  {read}"
+        )?;
         Ok(())
     }
 }

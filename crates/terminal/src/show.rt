@@ -56,7 +56,7 @@ pub fn numbers(heap: Global, items: &[Item]) -> Result<String, AnyError> {
     let mut s = String::new(heap);
     for x in items {
         if let Item::Byte(b) = *x {
-            write!(s, "{b} ")?;
+            write!(s, " {b}")?;
         }
     }
     Ok(s)
