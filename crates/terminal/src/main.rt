@@ -2,7 +2,6 @@
 // it prints what the reader gets, what the screen shows, the frame that goes to the scaler and what the scaler reads from
 // it, also where the frame is damaged on the way. The work is done, and proved, in the crates below; this one prints.
 mod report;
-mod show;
 
 use bench::desk::Desk;
 use input::first_line;

@@ -1,11 +1,16 @@
 // What came of a line.
-use crate::show::numbers;
-use crate::show::on_screen;
-use crate::show::text;
 use bench::scaler::read_by_scaler;
 use bench::scaler::send_and_read_back;
+use damage::bit_wrong;
+use damage::cut_and_sent_again;
 use item::Item;
-use std::alloc::AllocError;
+use show::AsNumbers;
+use show::AsNumbersStyle;
+use show::AsText;
+use show::AsTextStyle;
+use show::OnScreen;
+use show::OnScreenStyle;
+use show::spell;
 use std::alloc::Global;
 use std::error::AnyError;
 
@@ -13,27 +18,6 @@ use std::error::AnyError;
 pub struct Report {
     pub reader: Vec<Item>,
     pub screen: Vec<Item>,
-}
-
-/// A frame in which the lowest bit of the byte at a place came over wrong.
-fn flipped(heap: Global, frame: &[Item], place: usize) -> Result<Vec<Item>, AllocError> {
-    let mut damaged = Vec::new(heap);
-    for (i, x) in frame.iter().enumerate() {
-        match *x {
-            Item::Byte(b) if i == place => damaged.push(Item::Byte(b ^ 1))?,
-            _ => damaged.push(*x)?,
-        }
-    }
-    Ok(damaged)
-}
-
-/// The beginning of a frame, and then all of it.
-fn cut(heap: Global, frame: &[Item], place: usize) -> Result<Vec<Item>, AllocError> {
-    let mut damaged = Vec::new(heap);
-    for x in frame.iter().take(place).chain(frame.iter()) {
-        damaged.push(*x)?;
-    }
-    Ok(damaged)
 }
 
 impl Report {
@@ -46,13 +30,13 @@ impl Report {
 
     pub fn print(&self, rt: &LibcRuntime) -> Result<(), AnyError> {
         let heap = rt.alloc();
-        let screen = on_screen(heap, self.screen.as_slice())?;
+        let screen = spell::<OnScreen>(heap, self.screen.as_slice())?;
         println!(rt, "  the screen shows  {screen}")?;
         if self.reader.len() == 0 {
             println!(rt, "  the reader gets   nothing")?;
             return Ok(());
         }
-        let reader = text(heap, self.reader.as_slice())?;
+        let reader = spell::<AsText>(heap, self.reader.as_slice())?;
         println!(rt, "  the reader gets   {reader}")?;
         self.print_frame(rt)
     }
@@ -62,16 +46,16 @@ impl Report {
         let heap = rt.alloc();
         let sent = send_and_read_back(heap, self.reader.as_slice())?;
         let frame = sent.frame.as_slice();
-        let line = numbers(heap, frame)?;
+        let line = spell::<AsNumbers>(heap, frame)?;
         println!(rt, "  to the scaler    {line}")?;
-        let back = text(heap, sent.back.as_slice())?;
+        let back = spell::<AsText>(heap, sent.back.as_slice())?;
         println!(rt, "  the scaler reads  {back}")?;
         let place = frame.len() / 2;
-        let wrong = flipped(heap, frame, place)?;
-        let read = text(heap, read_by_scaler(heap, wrong.as_slice())?.as_slice())?;
+        let wrong = bit_wrong(heap, frame, place)?;
+        let read = spell::<AsText>(heap, read_by_scaler(heap, wrong.as_slice())?.as_slice())?;
         println!(rt, "  with a bit wrong in byte {place}, it reads  {read}")?;
-        let twice = cut(heap, frame, place)?;
-        let read = text(heap, read_by_scaler(heap, twice.as_slice())?.as_slice())?;
+        let twice = cut_and_sent_again(heap, frame, place)?;
+        let read = spell::<AsText>(heap, read_by_scaler(heap, twice.as_slice())?.as_slice())?;
         println!(
             rt,
             "  cut off after {place} bytes and sent again, it reads  {read}"
