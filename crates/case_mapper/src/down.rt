@@ -2,12 +2,10 @@
 ghost use mathlib.Core.Path.{_≡_};
 ghost use Rattle.lane.specs.Few.{items};
 ghost use Rattle.case_mapper.specs.Case.{byte-down, down-rule};
-ghost use Rattle.case_mapper.specs.Views.{down-held};
 use crate::partner::sign_of;
 use item::Item;
-use item::Refusal;
-use lane::Lane;
 use lane::few::Few;
+use lane::machine::Machine;
 
 /// What a byte becomes.
 fn sent(c: u8) -> Few
@@ -23,38 +21,25 @@ fn sent(c: u8) -> Few
     }
 }
 
+/// It has no state.
 #[derive(Clone, Copy)]
-pub struct CaseDown {
-    ready: Few,
-}
+pub struct CaseDown;
 
-pub impl Lane for CaseDown as CaseDownLane {
+pub impl Machine for CaseDown as CaseDownMachine {
     ghost State = { Unit {0} };
 
     ghost rule = { down-rule };
 
-    ghost holds = { down-held };
+    ghost state = { λ _. tt };
 
     fn new() -> CaseDown {
-        CaseDown { ready: Few::Zero }
+        CaseDown
     }
 
-    fn step(&mut self, x: Item) -> Result<(), Refusal> {
-        let Few::Zero = self.ready else {
-            return Err(Refusal::NoSpace);
-        };
-        self.ready = match x {
+    fn does(&mut self, x: Item) -> Few {
+        match x {
             Item::Byte(c) => sent(c),
             _ => Few::One(x),
-        };
-        Ok(())
-    }
-
-    fn first(&self) -> Option<Item> {
-        self.ready.first()
-    }
-
-    fn take(&mut self) -> Option<Item> {
-        self.ready.take()
+        }
     }
 }

@@ -8,10 +8,11 @@ ghost use mathlib.Core.Path.{_≡_};
 ghost use mathlib.Core.Bool.{true};
 ghost use Rattle.case_mapper.specs.Laws.{Round-trips};
 use down::CaseDown;
+use lane::machine::MachineLane;
 use level::module::Lanes;
 use up::CaseUp;
 
-pub type CaseMapper = Lanes<CaseUp, CaseDown>;
+pub type CaseMapper = Lanes<MachineLane<CaseUp>, MachineLane<CaseDown>>;
 
 // The law: each byte is read back from what is sent for it.
 fn reads_back()

@@ -3,12 +3,10 @@ ghost use mathlib.Core.Path.{_≡_};
 ghost use mathlib.Core.Bool.{Bool};
 ghost use Rattle.lane.specs.Few.{items};
 ghost use Rattle.case_mapper.specs.Case.{byte-after, gives-up, holds-after, up-rule};
-ghost use Rattle.case_mapper.specs.Views.{up-held};
 use crate::partner::meant_by;
 use item::Item;
-use item::Refusal;
-use lane::Lane;
 use lane::few::Few;
+use lane::machine::Machine;
 
 /// What a byte becomes after a backslash.
 fn after_backslash(c: u8) -> Few
@@ -53,37 +51,22 @@ fn holds_backslash(held: bool, x: Item) -> bool
 #[derive(Clone, Copy)]
 pub struct CaseUp {
     held: bool,
-    ready: Few,
 }
 
-pub impl Lane for CaseUp as CaseUpLane {
+pub impl Machine for CaseUp as CaseUpMachine {
     ghost State = { Bool };
 
     ghost rule = { up-rule };
 
-    ghost holds = { up-held };
+    ghost state = { λ m. m .held };
 
     fn new() -> CaseUp {
-        CaseUp {
-            held: false,
-            ready: Few::Zero,
-        }
+        CaseUp { held: false }
     }
 
-    fn step(&mut self, x: Item) -> Result<(), Refusal> {
-        let Few::Zero = self.ready else {
-            return Err(Refusal::NoSpace);
-        };
-        self.ready = read(self.held, x);
-        self.held = holds_backslash(self.held, x);
-        Ok(())
-    }
-
-    fn first(&self) -> Option<Item> {
-        self.ready.first()
-    }
-
-    fn take(&mut self) -> Option<Item> {
-        self.ready.take()
+    fn does(&mut self, x: Item) -> Few {
+        let held = self.held;
+        self.held = holds_backslash(held, x);
+        read(held, x)
     }
 }

@@ -10,6 +10,7 @@ use Rattle.buffer.specs.Held.{held}
 use Rattle.lane.specs.declared.few.Few.the-variants.{Zero}
 use Rattle.lane.specs.Few.{items}
 use Rattle.lane.specs.Rule.{Held, holding}
+use Rattle.lane.specs.declared.machine.MachineLane.{MachineLane}
 use Rattle.lane.specs.Reply.{Both, both}
 use Rattle.disciplines.specs.declared.canonical.CanonicalDown.{CanonicalDown}
 use Rattle.disciplines.specs.declared.canonical.CanonicalUp.{CanonicalUp}
@@ -43,5 +44,5 @@ abbrev pub Busy : CanonicalUp → Type 0
 Busy c = up-held c .ready ≡ [] → up-held c .reply ≡ [] → ⊥
 
 -- the down lane has no state
-abbrev pub down-held : CanonicalDown → Held (Unit {0})
+abbrev pub down-held : MachineLane CanonicalDown → Held (Unit {0})
 down-held d = holding tt (items (d .ready))

@@ -8,12 +8,12 @@ ghost use Rattle.buffer.specs.Held.{held};
 ghost use Rattle.lane.specs.Few.{items};
 ghost use Rattle.lane.specs.Reply.{both};
 ghost use Rattle.disciplines.specs.Canonical.{echo-of, erased, added, up-rule, down-rule, Line-bounded};
-ghost use Rattle.disciplines.specs.Views.{up-held, down-held, Free, Busy};
+ghost use Rattle.disciplines.specs.Views.{up-held, Free, Busy};
 use buffer::Buffer;
 use item::Item;
 use item::Refusal;
-use lane::Lane;
 use lane::few::Few;
+use lane::machine::Machine;
 use lane::reply::ReplyLane;
 
 const BELL: u8 = 7;
@@ -198,39 +198,25 @@ pub impl ReplyLane for CanonicalUp as CanonicalUpLane {
     }
 }
 
-/// The down lane. It spells out the end of a line.
+/// The down lane. It spells out the end of a line, and has no state.
 #[derive(Clone, Copy)]
-pub struct CanonicalDown {
-    ready: Few,
-}
+pub struct CanonicalDown;
 
-pub impl Lane for CanonicalDown as CanonicalDownLane {
+pub impl Machine for CanonicalDown as CanonicalDownMachine {
     ghost State = { Unit {0} };
 
     ghost rule = { down-rule };
 
-    ghost holds = { down-held };
+    ghost state = { λ _. tt };
 
     fn new() -> CanonicalDown {
-        CanonicalDown { ready: Few::Zero }
+        CanonicalDown
     }
 
-    fn step(&mut self, x: Item) -> Result<(), Refusal> {
-        let Few::Zero = self.ready else {
-            return Err(Refusal::NoSpace);
-        };
-        self.ready = match x {
+    fn does(&mut self, x: Item) -> Few {
+        match x {
             Item::Byte(LINE_FEED) => Few::Two(Item::Byte(RETURN), x),
             _ => Few::One(x),
-        };
-        Ok(())
-    }
-
-    fn first(&self) -> Option<Item> {
-        self.ready.first()
-    }
-
-    fn take(&mut self) -> Option<Item> {
-        self.ready.take()
+        }
     }
 }

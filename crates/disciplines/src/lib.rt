@@ -7,6 +7,7 @@ ghost use mathlib.Core.Bool.{true};
 ghost use Rattle.disciplines.specs.Raw.{Raw-passes};
 use canonical::CanonicalDown;
 use canonical::CanonicalUp;
+use lane::machine::MachineLane;
 use lane::pass::Pass;
 use lane::reply::Silent;
 use level::discipline::TopLanes;
@@ -15,7 +16,7 @@ use level::discipline::TopLanes;
 pub type Raw = TopLanes<Silent<Pass>, Pass>;
 
 /// Edits a line as it is typed, and echoes it.
-pub type Canonical = TopLanes<CanonicalUp, CanonicalDown>;
+pub type Canonical = TopLanes<CanonicalUp, MachineLane<CanonicalDown>>;
 
 /// The raw discipline passes every list as it is.
 pub fn raw_passes() -> bool

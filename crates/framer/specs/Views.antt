@@ -7,6 +7,7 @@ use Rattle.item.specs.declared.Item.{Item}
 use Rattle.lane.specs.Few.{items}
 use Rattle.lane.specs.Lists.{record-of}
 use Rattle.lane.specs.Rule.{Held, holding}
+use Rattle.lane.specs.declared.machine.MachineLane.{MachineLane}
 use Rattle.std.specs.declared.option.Option.{Option}
 use Rattle.framer.specs.declared.down.FrameDown.{FrameDown}
 use Rattle.framer.specs.declared.up.At.{At}
@@ -16,8 +17,8 @@ use Rattle.framer.specs.declared.up.Ready.the-variants.{Items, Record}
 use Rattle.framer.specs.declared.up.FrameUp.{FrameUp}
 use Rattle.framer.specs.Frame.{Place, hunting, body, escaped}
 
-abbrev pub down-held : FrameDown → Held (Option ℕ)
-down-held l = holding (l .sum) (items (l .ready))
+abbrev pub down-held : MachineLane FrameDown → Held (Option ℕ)
+down-held l = holding (l .machine .sum) (items (l .ready))
 
 abbrev pub place : At → List ℕ → Place
 place Hunting bs = hunting

@@ -4,22 +4,19 @@ ghost use mathlib.Core.List.{_++_};
 ghost use Prim.Native.Nat.{ℕ};
 ghost use Rattle.lane.specs.Few.{items};
 ghost use Rattle.framer.specs.Frame.{opening, sent, gives-down, down-rule};
-ghost use Rattle.framer.specs.Views.{down-held};
 ghost use Rattle.std.specs.declared.option.Option.{Option};
 use crate::ESCAPE;
 use crate::FLIP;
 use crate::START;
 use crate::STOP;
 use item::Item;
-use item::Refusal;
-use lane::Lane;
 use lane::few::Few;
+use lane::machine::Machine;
 
-/// The exclusive or of the bytes of a record begun, and what is ready.
+/// The exclusive or of the bytes of a record begun, or none.
 #[derive(Clone, Copy)]
 pub struct FrameDown {
     sum: Option<u8>,
-    ready: Few,
 }
 
 // A payload byte as it is sent, behind START if the record is not begun.
@@ -59,43 +56,29 @@ fn closed(sum: Option<u8>) -> Few
     }
 }
 
-pub impl Lane for FrameDown as FrameDownLane {
+pub impl Machine for FrameDown as FrameDownMachine {
     ghost State = { Option ℕ };
 
     ghost rule = { down-rule };
 
-    ghost holds = { down-held };
+    ghost state = { λ m. m .sum };
 
     fn new() -> FrameDown {
-        FrameDown {
-            sum: None,
-            ready: Few::Zero,
-        }
+        FrameDown { sum: None }
     }
 
-    fn step(&mut self, x: Item) -> Result<(), Refusal> {
-        let Few::Zero = self.ready else {
-            return Err(Refusal::NoSpace);
-        };
+    fn does(&mut self, x: Item) -> Few {
+        let sum = self.sum;
         match x {
             Item::Byte(b) => {
-                self.ready = opened(self.sum, b);
-                self.sum = Some(self.sum.unwrap_or(0) ^ b);
+                self.sum = Some(sum.unwrap_or(0) ^ b);
+                opened(sum, b)
             }
             Item::End => {
-                self.ready = closed(self.sum);
                 self.sum = None;
+                closed(sum)
             }
-            Item::Note(_) => self.ready = Few::One(x),
+            Item::Note(_) => Few::One(x),
         }
-        Ok(())
-    }
-
-    fn first(&self) -> Option<Item> {
-        self.ready.first()
-    }
-
-    fn take(&mut self) -> Option<Item> {
-        self.ready.take()
     }
 }

@@ -7,10 +7,11 @@ pub mod up;
 ghost use mathlib.Core.Path.{_≡_};
 ghost use Rattle.framer.specs.Laws.{Round-trips};
 use down::FrameDown;
+use lane::machine::MachineLane;
 use level::module::Lanes;
 use up::FrameUp;
 
-pub type Framer = Lanes<FrameUp, FrameDown>;
+pub type Framer = Lanes<FrameUp, MachineLane<FrameDown>>;
 
 // A frame begins with START.
 const START: u8 = 2;

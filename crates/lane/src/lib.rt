@@ -2,6 +2,7 @@
 // with into the next ready list. Lanes are values without invariants, so that any can stand in a pile over any driver.
 // Promises: every lane does what its rule says, and a refused step changes nothing.
 pub mod few;
+pub mod machine;
 pub mod pass;
 pub mod reply;
 

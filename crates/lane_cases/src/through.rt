@@ -1,20 +1,21 @@
 // A case's list through a lane, by the calls of modules and disciplines.
 use crate::case::Case;
 use case_mapper::CaseMapper;
-use case_mapper::down::CaseDownLane;
-use case_mapper::up::CaseUpLane;
+use case_mapper::down::CaseDownMachine;
+use case_mapper::up::CaseUpMachine;
 use disciplines::Canonical;
 use disciplines::Raw;
-use disciplines::canonical::CanonicalDownLane;
+use disciplines::canonical::CanonicalDownMachine;
 use disciplines::canonical::CanonicalUpLane;
 use framer::Framer;
-use framer::down::FrameDownLane;
+use framer::down::FrameDownMachine;
 use framer::up::FrameUpLane;
 use item::Band;
 use item::Item;
 use item::Refusal;
 use item::Way;
-use lane::pass::PassLane;
+use lane::machine::MachineLaneLane;
+use lane::pass::PassingMachine;
 use lane::reply::SilentReplyLane;
 use level::discipline::Discipline;
 use level::discipline::TopLanesDiscipline;
