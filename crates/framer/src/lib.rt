@@ -32,8 +32,9 @@ fn reads_back()
     ensures round_trip { λ _. ⌜ Round-trips ⌝ }
 {}
 
-/// The most bytes of a record that comes back whole, from the down lane as from the echo lane.
-pub fn longest_record() -> usize
+/// What the framer sends down or echoes for a record, its up lane, just started, turns back into that record, if it has up
+/// to this many bytes.
+pub fn reads_back_up_to() -> usize
     ensures value { λ r. ⌜ r ≡ 1024 ⌝ }
     ensures round_trip { λ _. ⌜ Round-trips ⌝ }
 {

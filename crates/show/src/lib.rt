@@ -95,10 +95,10 @@ pub impl Style for AsNumbers as AsNumbersStyle {
 pub fn spell<S: Style>(heap: Global, items: &[Item]) -> Result<String, AllocError>
     ensures value { λ r. ⌜ made r (λ s. string-bytes s ≡ spelled (S·Style .shows) (now (items .entry))) ⌝ }
 {
-    let mut s = String::new(heap);
+    let mut text = String::new(heap);
     for x in items {
         let t = S::show(heap, *x)?;
-        s.push_str(t.as_str())?;
+        text.push_str(t.as_str())?;
     }
-    Ok(s)
+    Ok(text)
 }

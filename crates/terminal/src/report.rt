@@ -1,4 +1,7 @@
 // What came of a line.
+ghost use mathlib.Core.Path.{_≡_};
+ghost use mathlib.Core.List.{[]};
+ghost use Rattle.std.specs.Of.Vec.{vec-items};
 use bench::scaler::read_by_scaler;
 use bench::scaler::send_and_read_back;
 use damage::bit_wrong;
@@ -21,7 +24,9 @@ pub struct Report {
 }
 
 impl Report {
-    pub fn new(heap: Global) -> Report {
+    pub fn new(heap: Global) -> Report
+        ensures empty { λ r. ⌜ (vec-items (r .reader) ≡ []) × (vec-items (r .screen) ≡ []) ⌝ }
+    {
         Report {
             reader: Vec::new(heap),
             screen: Vec::new(heap),
