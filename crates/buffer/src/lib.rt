@@ -1,6 +1,8 @@
 // A byte buffer of fixed size in its own record: the line that a discipline holds, the body of a frame.
 // Every value of the type is a buffer, so it asks for no invariant: a length past the end counts as the end.
 // Promises: each call does to the list of bytes held what its name says.
+#![tactic(auto)]
+
 ghost use Rattle.std.specs.Prelude.{◌≡◌, ◌-◌, ◌<◌, ◌≤◌, [], ◌∷◌, ◌++◌, length, take, if◌then◌else◌, nat_lt};
 ghost use Rattle.buffer.specs.Held.{held};
 

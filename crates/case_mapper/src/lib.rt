@@ -1,5 +1,7 @@
 // The case mapper: a module for terminals that have capitals only.
 // Promises: each lane does what specs/Case.antt says, and what it sends down for a record, its up lane reads back.
+#![tactic(auto)]
+
 pub mod down;
 pub mod partner;
 pub mod up;

@@ -1,5 +1,7 @@
 // What can happen to a frame on its way.
 // Promises: just the damage that is named, and no other.
+#![tactic(auto)]
+
 ghost use Rattle.std.specs.Prelude.{◌≡◌, ◌<◌, ◌≤◌, min, List, ◌++◌, length, take, IfOk, OnOk};
 ghost use Rattle.damage.specs.Damage.{flip, flipped_at};
 

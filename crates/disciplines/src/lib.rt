@@ -1,5 +1,7 @@
 // The line disciplines that can stand on top of a stream, made of lanes.
 // Promises: each does to every item what specs/Raw.antt or specs/Canonical.antt says, and a refused step changes nothing.
+#![tactic(auto)]
+
 pub mod canonical;
 
 ghost use Rattle.std.specs.Prelude.{◌≡◌, true};

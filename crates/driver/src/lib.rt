@@ -1,5 +1,7 @@
 // A driver of a serial line: a waiting list of what arrived, and an outgoing list for each band.
 // Promises: every driver does what specs/Calls.antt says of its line, and a refused call changes nothing.
+#![tactic(auto)]
+
 pub mod fifo;
 pub mod rings;
 pub mod serial;

@@ -1,5 +1,7 @@
 // A list of items with a fixed capacity: what a driver keeps its items in.
 // Promises: every such list does what specs/Calls.antt says of it, and a refused call changes nothing.
+#![tactic(auto)]
+
 pub mod inline;
 pub mod rings;
 

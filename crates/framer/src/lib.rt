@@ -1,6 +1,8 @@
 // The framer: a module that sends each record down as a frame, with a check byte, and reads frames on the way up.
 // Promises: each lane does what its rule in specs/Frame.antt says, and a record of up to 1,024 bytes that was sent
 // comes back whole.
+#![tactic(auto)]
+
 pub mod down;
 pub mod up;
 

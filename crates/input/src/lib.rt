@@ -1,5 +1,7 @@
 // The bytes that were typed, cut into lines.
 // Promises: a line ends behind the first byte that ends one, and is typed as its bytes, with END where nothing ends it.
+#![tactic(auto)]
+
 ghost use Rattle.std.specs.Prelude.{◌≡◌, ℕ, ◌+◌, ◌-◌, ◌<◌, ◌≤◌, true, false, map, length, IfOk, slice_index};
 ghost use Rattle.item.specs.declared.Item.TheVariants.{Byte};
 ghost use Rattle.input.specs.Lines.{ends, ended, line_of};

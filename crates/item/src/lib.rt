@@ -1,5 +1,7 @@
 // Items, the ways they go, and the twelve refusals: the words that every layer speaks.
 // Promises: each refusal, band and way has the one number that specs/Numbers.antt gives it.
+#![tactic(auto)]
+
 ghost use Rattle.std.specs.Prelude.{◌≡◌};
 ghost use Rattle.item.specs.Numbers.{number, band_number, lane_number};
 

@@ -2,6 +2,8 @@
 // standard input is a case, as `framer up: 9 2 65 65 3 = 65 END`: a lane, what it is given, and what must come out.
 // An item is a byte, END or NOTEk; 65*3 stands for 65 65 65, and 65+END*2 for 65 END 65 END. Lines that begin with # and
 // empty lines are passed over.
+#![tactic(auto)]
+
 mod case;
 mod through;
 

@@ -2,6 +2,8 @@
 // terminal's UART, and what goes out is sent there: the echo, and an answer to each line. For each line it prints what the reader
 // gets, what the screen shows, the order on the line, the frame that goes to the scaler and what the scaler reads from it, also
 // where the frame is damaged on the way. The work is done, and proved, in the crates below; this one prints.
+#![tactic(auto)]
+
 mod report;
 mod typing;
 

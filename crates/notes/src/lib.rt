@@ -1,5 +1,7 @@
 // A NOTE has a number from 1 to 255.
 // Promises: a lane that is given such NOTEs alone makes such NOTEs alone.
+#![tactic(auto)]
+
 ghost use Rattle.std.specs.Prelude.{◌≡◌};
 ghost use Rattle.notes.specs.Notes.{NotesKept};
 

@@ -2,6 +2,8 @@
 // Every value of the type is a ring, so no call asks anything: a head or a length past the end counts as within it.
 // Promises: each call does to the list of elements what its name says; put is refused 8 exactly when the ring is full, take 9
 // exactly when it is empty, and a refused call changes nothing, in the ring or in its memory.
+#![tactic(auto)]
+
 ghost use Rattle.std.specs.Prelude.{◌≡◌, ◌+◌, ◌<◌, ◌≤◌, true, false, [], ◌∷◌, ◌++◌, length, ◌==◌};
 ghost use Rattle.ring.specs.Elements.{elements, capacity_of, place_of, count_of, SameMemory, LaysOut, Puts, Takes};
 ghost use Rattle.item.specs.First.{rest, Leads};

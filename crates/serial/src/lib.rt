@@ -1,5 +1,7 @@
 // The serial driver: it keeps its three lists in any lists of items with a capacity, and it loops or not.
 // Promises: each call does what the driver's interface says, for every kind of list, looping or not.
+#![tactic(auto)]
+
 ghost use Rattle.std.specs.Prelude.{◌≡◌, ℕ, ◌+◌, ◌<◌, ◌≤◌, Bool, true, false, List, [], ◌∷◌, ◌++◌, length, None, MatchOption, MatchResult};
 ghost use Rattle.item.specs.Numbers.{number};
 ghost use Rattle.driver.specs.Line.{Line, band, band_room, with_waiting, with_band, with_begun, chosen, chosen_from, begun_after, returns, after_sent};

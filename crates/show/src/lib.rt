@@ -1,5 +1,7 @@
 // Items as text that a person can read.
 // Promises: the text is just what specs/Shown.antt says of each item, in order.
+#![tactic(auto)]
+
 ghost use Rattle.std.specs.Prelude.{◌≡◌, ℕ, List, IfOk, string_bytes};
 ghost use Rattle.item.specs.declared.Item.{Item};
 ghost use Rattle.show.specs.Shown.{byte_text, meaning_of, item_text, screen_text, number_text, spelled};

@@ -1,6 +1,8 @@
 // The bench terminal. What is typed at it comes as standard input, or is a sample line about a lot of butter. For each line
 // it prints what the reader gets, what the screen shows, the frame that goes to the scaler and what the scaler reads from
 // it, also where the frame is damaged on the way. The work is done, and proved, in the crates below; this one prints.
+#![tactic(auto)]
+
 mod report;
 
 use bench::desk::Desk;

@@ -1,6 +1,8 @@
 // Whole lists over a driver: what a program does that has no queues.
 // Promises: everything that waits is fetched in order, items are offered in order as long as there is room, and what can be sent
 // goes out in the order that the driver's rules give.
+#![tactic(auto)]
+
 ghost use Rattle.std.specs.Prelude.{◌≡◌, min, [], ◌++◌, length, take, OnOk};
 ghost use Rattle.driver.specs.Line.{with_waiting};
 ghost use Rattle.wire.specs.Order.{free, OffersAll, SendsAll};

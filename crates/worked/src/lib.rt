@@ -1,5 +1,7 @@
 // Worked lists: what each module makes of some short lists, computed by hand.
 // Promises: the rules give just these.
+#![tactic(auto)]
+
 ghost use Rattle.std.specs.Prelude.{◌≡◌};
 ghost use Rattle.worked.specs.Worked.{Worked};
 
