@@ -7,7 +7,7 @@ use Rattle.damage.proofs.push_all.Goals as goal
 
 pub loop-x-preserved : goal.loop-x-preserved
 loop-x-preserved c =
-    pushed (vec_items c.args.out.now) _ _ c.args.items.now c.loop-x.x-index (Byte 0) c.loop-x-test.true c.loop-x.invariant c.in-ok-push.ensures.items
+    pushed (vec_items c.args.out.now) _ _ c.args.items.now c.loop-x.x-index (Byte 0) c.loop-x-test.true c.loop-x.invariant c.in_ok-push.ensures.items
 
 pub returns : goal.returns
 returns c =

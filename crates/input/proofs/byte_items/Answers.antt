@@ -12,7 +12,7 @@ pub loop-b-preserved : goal.loop-b-preserved
 loop-b-preserved c =
     let bs = c.args.bytes.now in
     let i = c.loop-b.b-index in
-    c.in-ok-push.ensures.items ∙ ap (λ (xs : List Item). xs ++ (Byte (get_or bs i 0) ∷ [])) c.loop-b.invariant ∙ pushed bs i c.loop-b-test.true
+    c.in_ok-push.ensures.items ∙ ap (λ (xs : List Item). xs ++ (Byte (get_or bs i 0) ∷ [])) c.loop-b.invariant ∙ pushed bs i c.loop-b-test.true
 
 pub returns : goal.returns
 returns c = record { value = c.loop-b.invariant ∙ ap (map Byte) (take_all _ _ c.loop-b-test.false) }

@@ -11,8 +11,8 @@ returns-in-12 c = record { value = ap meaning_of (sym c.in-12.is) }
 pub returns-in-13 : goal.returns-in-13
 returns-in-13 c = record { value = ap meaning_of (sym c.in-13.is) }
 
-pub returns-in-default : goal.returns-in-default
-returns-in-default c =
+pub returns-in_default : goal.returns-in_default
+returns-in_default c =
     let a : eqb c.args.note 11 ≡ false = search rules in
     let b : eqb c.args.note 12 ≡ false = search rules in
     let d : eqb c.args.note 13 ≡ false = search rules in

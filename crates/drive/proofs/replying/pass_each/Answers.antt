@@ -10,7 +10,7 @@ loop-x-preserved g c =
     let rule = g.L.ReplyLane.rule in
     let xs = c.args.given.now in
     let i = c.loop-x.x-index in
-    let one = c.in-ok-pass-one.ensures in
+    let one = c.in_ok-pass_one.ensures in
     let now = c.loop-x.invariant in
     let state = ap (λ h. h.state) now.2 in (
       turn_gives (onward rule) _ _ xs i (Byte 0) _ _ _ _ c.loop-x-test.true now.0 (ap (λ h. h.ready) now.2) state one.gives,

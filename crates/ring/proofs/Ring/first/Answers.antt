@@ -3,7 +3,7 @@ use Rattle.std.proofs.lemmas.List.{nil_from_length}
 use Rattle.ring.specs.Elements.{elements}
 use Rattle.ring.proofs.Ring.first.Goals as goal
 
-pub returns-then-is-empty : goal.returns-then-is-empty
-returns-then-is-empty g c =
+pub returns-then-is_empty : goal.returns-then-is_empty
+returns-then-is_empty g c =
     let none : length (elements c.args.self.now) ≡ 0 = search rules in
     record { leads = nil_from_length _ none }

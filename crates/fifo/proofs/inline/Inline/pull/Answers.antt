@@ -9,12 +9,12 @@ returns g c =
     let long = c.cells-cells.ensures.value in
     record {
       pulls =
-          pulled q c.place-head.result c.length-len.result c.cell-after-self.result (Byte 0)
+          pulled q c.place-head.result c.length-len.result c.cell_after-self.result (Byte 0)
           c.place-head.ensures.value
           c.length-len.ensures.value
           (omega arith)
           c.length-len.ensures.within
-          (λ a. c.cell-after-self.ensures.wraps (omega arith))
-          (λ a. c.cell-after-self.ensures.plain (λ b. a (omega arith)));
+          (λ a. c.cell_after-self.ensures.wraps (omega arith))
+          (λ a. c.cell_after-self.ensures.plain (λ b. a (omega arith)));
       room = refl;
     }

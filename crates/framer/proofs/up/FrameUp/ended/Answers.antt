@@ -8,7 +8,7 @@ use Rattle.framer.proofs.up.FrameUp.ended.Goals as goal
 pub returns-then-check-eq0 : goal.returns-then-check-eq0
 returns-then-check-eq0 c =
     let bs = held c.args.self.now.body in
-    let e = c.as-slice-bytes.ensures.value in
+    let e = c.as_slice-bytes.ensures.value in
     let some : 0 < length bs = omega (arith, ap length e) in
     let zeroed : xor_of bs ≡ 0 = cc in
     record { gives = ap (λ (q : List ℕ). record_of (take (length q - 1) bs)) e ∙ sym (ending_whole bs some zeroed) }
