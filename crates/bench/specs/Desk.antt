@@ -1,8 +1,8 @@
 -- The terminal: what is typed goes up through the mapper and the discipline, and the echo down through the mapper.
 use Rattle.std.specs.Prelude.{◌≡◌, List, []}
 use Rattle.item.specs.declared.Item.{Item}
-use Rattle.lane.specs.Rule.{Held, holding, started}
-use Rattle.lane.specs.Reply.{Both, both, begun, onward, back, ahead, behind}
+use Rattle.lane.specs.Rule.{holding, started}
+use Rattle.lane.specs.Reply.{both, begun, onward, back, ahead, behind}
 use Rattle.lane.specs.Lists.{onto, emits, after}
 use Rattle.case_mapper.specs.Case as mapper
 use Rattle.case_mapper.specs.Views as mapper_lane

@@ -1,10 +1,10 @@
 -- The round trip: each byte is read back from what is sent for it.
-use Rattle.std.proofs.Common.{◌≡◌, ℕ, ◌+◌, ◌-◌, ◌<◌, ◌≤◌, Bool, true, false, cond, ◌&&◌, ◌||◌, eqb, leb, ◌⊎◌, List, [], ◌∷◌, ◌++◌, map, sym, refl, ap, ◌∙◌, subst, inl, inr, arith}
+use Rattle.std.proofs.Common.{◌≡◌, ℕ, ◌+◌, ◌-◌, ◌≤◌, true, false, eqb, leb, List, [], ◌∷◌, ◌++◌, sym, refl, ap, ◌∙◌, subst, inl, inr, arith}
 use Rattle.std.proofs.lemmas.Bool.{cases_Bool, eqb-true, leb-true, le-leb, ne_eqb, and_parts, and_from}
 use Rattle.item.specs.declared.Item.{Item}
-use Rattle.item.specs.declared.Item.TheVariants.{Byte, End, Note}
+use Rattle.item.specs.declared.Item.TheVariants.{Byte}
 use Rattle.lane.specs.Lists.{stepped, through, record_of, Undoes}
-use Rattle.case_mapper.specs.Case.{small, capital, byte_down, byte_up, down_rule, up_rule}
+use Rattle.case_mapper.specs.Case.{small, capital, byte_down, down_rule, up_rule}
 use Rattle.case_mapper.specs.Laws.{RoundTrips}
 
 abbrev Reads : List Item → ℕ → Type 0

@@ -1,8 +1,8 @@
 -- The canonical discipline.
-use Rattle.std.specs.Prelude.{ℕ, ◌-◌, ◌≤◌, Bool, true, false, cond, ◌||◌, List, [], ◌∷◌, ◌++◌, map, length, take, ◌==◌, nat_lt}
+use Rattle.std.specs.Prelude.{ℕ, ◌-◌, ◌≤◌, Bool, cond, ◌||◌, List, [], ◌∷◌, ◌++◌, map, length, take, ◌==◌, nat_lt}
 use Rattle.item.specs.declared.Item.{Item}
 use Rattle.item.specs.declared.Item.TheVariants.{Byte, End, Note}
-use Rattle.lane.specs.Rule.{Held, holding, Rule}
+use Rattle.lane.specs.Rule.{holding, Rule}
 use Rattle.lane.specs.Lists.{after}
 use Rattle.lane.specs.Reply.{Both, both, ReplyRule, onward}
 

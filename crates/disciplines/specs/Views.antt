@@ -1,7 +1,7 @@
 -- What the lanes hold.
 use Rattle.std.specs.Prelude.{◌≡◌, ℕ, Bool, true, false, List, [], ◌∷◌, ◌++◌, map, drop, ◌≢◌}
 use Rattle.item.specs.declared.Item.{Item}
-use Rattle.item.specs.declared.Item.TheVariants.{Byte, End, Note}
+use Rattle.item.specs.declared.Item.TheVariants.{Byte, End}
 use Rattle.buffer.specs.Held.{held}
 use Rattle.lane.specs.declared.few.Few.TheVariants.{Zero}
 use Rattle.lane.specs.Few.{items}

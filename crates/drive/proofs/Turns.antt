@@ -1,9 +1,9 @@
 -- One item more, of a list that is stepped item by item.
-use Rattle.std.proofs.Common.{◌≡◌, ℕ, ◌+◌, ◌<◌, ◌≤◌, List, [], ◌∷◌, ◌++◌, length, get_or, take, sym, refl, ap, ◌∙◌, append_assoc, append-nil}
+use Rattle.std.proofs.Common.{◌≡◌, ℕ, ◌+◌, ◌<◌, List, [], ◌∷◌, ◌++◌, length, get_or, take, sym, refl, ap, ◌∙◌, append_assoc, append-nil}
 use Rattle.std.proofs.lemmas.List.{take_more}
 use Rattle.item.specs.declared.Item.{Item}
-use Rattle.lane.specs.Rule.{Rule, Held, holding}
-use Rattle.lane.specs.Reply.{ReplyRule, Both, both, onward, back}
+use Rattle.lane.specs.Rule.{Rule}
+use Rattle.lane.specs.Reply.{ReplyRule, onward, back}
 use Rattle.lane.specs.Lists.{stepped, after}
 use Rattle.lane.proofs.Joined.{stepped_join, after_join}
 

@@ -1,5 +1,5 @@
 -- One item sent, step by step: it comes back on a loop, leaves its band, and begins or ends a record.
-use Rattle.std.proofs.Common.{◌≡◌, ℕ, ◌<◌, ◌≤◌, true, List, [], ◌∷◌, length, Option, sym, refl, subst}
+use Rattle.std.proofs.Common.{◌≡◌, ℕ, ◌<◌, ◌≤◌, true, [], ◌∷◌, length, Option, sym, refl, subst}
 use Rattle.item.specs.declared.Item.{Item}
 use Rattle.item.specs.declared.Band.{Band}
 use Rattle.item.specs.declared.Band.TheVariants.{Records, Echo}
@@ -7,7 +7,7 @@ use Rattle.item.specs.declared.Refusal.{Refusal}
 use Rattle.item.specs.Numbers.{number}
 use Rattle.item.specs.First.{rest}
 use Rattle.driver.specs.Line.{Line, band, with_waiting, with_band, with_begun, chosen, begun_after, returns, after_sent}
-use Rattle.driver.specs.Calls.{Sent, WouldNotFit, Unsent, nothing, no_room}
+use Rattle.driver.specs.Calls.{Sent, Unsent, nothing, no_room}
 
 abbrev Room : Line → Item → Type 0
 Room l x = l.loops ≡ true → returns x ≡ true → length l.waiting < l.waiting_room

@@ -1,5 +1,5 @@
 -- What the calls of a driver do to its line, and when they refuse. A refused call changes nothing.
-use Rattle.std.specs.Prelude.{◌≡◌, ℕ, ◌+◌, ◌<◌, ◌≤◌, Bool, true, false, List, [], ◌∷◌, ◌++◌, length, Some, None, Ok, Err, Option, Result}
+use Rattle.std.specs.Prelude.{◌≡◌, ℕ, ◌+◌, ◌<◌, ◌≤◌, true, List, [], ◌∷◌, ◌++◌, length, Some, None, Ok, Err, Option, Result}
 use Rattle.item.specs.declared.Item.{Item}
 use Rattle.item.specs.declared.Band.{Band}
 use Rattle.item.specs.declared.Refusal.{Refusal}

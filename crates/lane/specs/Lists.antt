@@ -1,8 +1,8 @@
 -- Whole lists through a lane.
 use Rattle.std.specs.Prelude.{◌≡◌, ℕ, ◌≤◌, List, [], ◌∷◌, ◌++◌, map, length}
 use Rattle.item.specs.declared.Item.{Item}
-use Rattle.item.specs.declared.Item.TheVariants.{Byte, End, Note}
-use Rattle.lane.specs.Rule.{Held, holding, Rule}
+use Rattle.item.specs.declared.Item.TheVariants.{Byte, End}
+use Rattle.lane.specs.Rule.{Held, Rule}
 
 -- a list stepped from a state: the ready lists, joined
 abbrev pub stepped : {S : Type 0} → Rule S → S → List Item → List Item

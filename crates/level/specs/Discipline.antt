@@ -6,7 +6,7 @@ use Rattle.item.specs.declared.Way.{Way}
 use Rattle.item.specs.declared.Way.TheVariants.{Up, Down}
 use Rattle.item.specs.declared.Refusal.{Refusal}
 use Rattle.item.specs.Numbers.{number}
-use Rattle.lane.specs.Rule.{Held, holding, Rule, started, rest}
+use Rattle.lane.specs.Rule.{Held, Rule, started, rest}
 use Rattle.lane.specs.Reply.{Both, both, ReplyRule, begun}
 use Rattle.level.specs.Module.{shorter}
 

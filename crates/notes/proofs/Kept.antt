@@ -1,16 +1,16 @@
 -- Each lane, item by item.
-use Rattle.std.proofs.Common.{ℕ, ◌-◌, ◌<◌, Bool, true, false, cond, eqb, ltb, leb, List, [], ◌∷◌, ◌++◌, map, length, take, Some, None, Option, arith, lit<}
+use Rattle.std.proofs.Common.{ℕ, ◌-◌, ◌<◌, Bool, true, false, eqb, ltb, List, [], ◌∷◌, ◌++◌, map, length, take, Some, None, Option, arith}
 use Rattle.std.proofs.lemmas.Bool.{cond_both}
 use Rattle.item.specs.declared.Item.{Item}
 use Rattle.item.specs.declared.Item.TheVariants.{Byte, End, Note}
-use Rattle.lane.specs.Rule.{Rule, Held, holding}
-use Rattle.lane.specs.Reply.{Both, both, onward, back}
-use Rattle.lane.specs.Lists.{stepped, record_of}
+use Rattle.lane.specs.Rule.{Rule, Held}
+use Rattle.lane.specs.Reply.{Both, onward, back}
+use Rattle.lane.specs.Lists.{stepped}
 use Rattle.case_mapper.specs.Case as mapper
 use Rattle.framer.specs.Frame as framer
 use Rattle.framer.specs.Frame.{Place, hunting, body, escaped}
 use Rattle.disciplines.specs.Canonical as canonical
-use Rattle.notes.specs.Notes.{Proper, AllProper, Keeps, NotesKept}
+use Rattle.notes.specs.Notes.{Proper, AllProper, NotesKept}
 
 joined : (xs ys : List Item) → AllProper xs → AllProper ys → AllProper (xs ++ ys)
 joined [] ys p q = q

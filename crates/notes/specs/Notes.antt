@@ -1,5 +1,5 @@
 -- A NOTE has a number from 1 on (that it is at most 255 is part of its type).
-use Rattle.std.specs.Prelude.{ℕ, ◌<◌, List, [], ◌∷◌}
+use Rattle.std.specs.Prelude.{◌<◌, List, [], ◌∷◌}
 use Rattle.item.specs.declared.Item.{Item}
 use Rattle.item.specs.declared.Item.TheVariants.{Byte, End, Note}
 use Rattle.lane.specs.Rule.{Rule}

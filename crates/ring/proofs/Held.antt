@@ -1,10 +1,9 @@
 -- Laws of what a ring holds.
-use Rattle.std.proofs.Common.{◌≡◌, ℕ, suc, ◌+◌, ◌-◌, ◌<◌, ◌≤◌, min, Bool, true, false, cond, ◌⊎◌, List, [], ◌∷◌, ◌++◌, length, get_or, take, drop, set, sym, refl, ap, ◌∙◌, inl, inr, ⊎_elim, append_assoc, append-nil, arith}
+use Rattle.std.proofs.Common.{◌≡◌, ℕ, suc, ◌+◌, ◌-◌, ◌<◌, ◌≤◌, min, Bool, true, false, cond, List, [], ◌∷◌, ◌++◌, length, get_or, take, drop, set, sym, ap, ◌∙◌, ⊎_elim, append_assoc, append-nil, arith}
 use Rattle.std.proofs.lemmas.Bool.Decides.{nat_tests}
 use Rattle.std.proofs.lemmas.Bool.{cases_eq, cases_lt}
-use native.Mathlib.Nat.{add-sub_cancel_left}
 use lib.Seq.{take-set-lt}
-use Rattle.std.proofs.lemmas.List.{length-set, length-append, length-take, length-drop, length-take-le, drop-set-add, drop-set-lt, take-set-le, set-append_left, set-append_right, take_more_set, take-set, drop_more, take_more, take-append-le, drop_all, take_all}
+use Rattle.std.proofs.lemmas.List.{length-set, length-append, length-take, length-drop, length-take-le, drop-set-add, drop-set-lt, take-set-le, set-append_left, set-append_right, take_more_set, drop_more, take_more, take-append-le, drop_all, take_all}
 use Rattle.ring.specs.Elements.{held, within, elements, capacity_of, place_of, count_of}
 use Rattle.item.specs.First.{rest}
 use Rattle.ring.specs.declared.Ring.{Ring}

@@ -1,5 +1,5 @@
 -- What a ring holds, first to last, and what its calls do to that.
-use Rattle.std.specs.Prelude.{◌≡◌, ℕ, ◌<◌, ◌≤◌, min, Bool, cond, List, [], ◌∷◌, ◌++◌, length, take, drop, Some, None, Ok, Err, Option, Result, nat_lt}
+use Rattle.std.specs.Prelude.{◌≡◌, ℕ, ◌<◌, ◌≤◌, min, cond, List, [], ◌∷◌, ◌++◌, length, take, drop, Ok, Err, Result, nat_lt}
 use Rattle.item.specs.declared.Refusal.{Refusal}
 use Rattle.item.specs.Numbers.{number}
 use Rattle.ring.specs.declared.Ring.{Ring}

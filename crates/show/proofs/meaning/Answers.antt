@@ -1,4 +1,4 @@
-use Rattle.std.proofs.Common.{◌≡◌, false, eqb, sym, ap, ◌∙◌, rules}
+use Rattle.std.proofs.Common.{◌≡◌, false, eqb, sym, ap, rules}
 use Rattle.show.specs.Shown.{meaning_of}
 use Rattle.show.proofs.meaning.Goals as goal
 

@@ -1,4 +1,4 @@
-use Rattle.std.proofs.Common.{◌<◌, ◌≤◌, min, length, arith, rules}
+use Rattle.std.proofs.Common.{◌<◌, min, length, arith, rules}
 use Rattle.buffer.proofs.Front.{appended}
 use Rattle.buffer.proofs.Buffer.append.Goals as goal
 

@@ -1,4 +1,4 @@
-use Rattle.std.proofs.Common.{◌≡◌, sym, ap, ◌∙◌, rules}
+use Rattle.std.proofs.Common.{sym, ap, ◌∙◌}
 use Rattle.item.proofs.More.{moved}
 use Rattle.drive.proofs.plain.drain.Goals as goal
 
