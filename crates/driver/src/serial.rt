@@ -11,10 +11,10 @@ use item::{Band, Item, Refusal};
 
 #[derive(Drop)]
 pub struct Serial<Q, const LOOPS: bool> {
-    waiting: Q,
-    records: Q,
-    echo: Q,
-    begun: Option<Band>,
+    pub waiting: Q,
+    pub records: Q,
+    pub echo: Q,
+    pub begun: Option<Band>,
 }
 
 /// A byte begins a record, END ends it, NOTE does neither.

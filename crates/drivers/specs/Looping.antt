@@ -3,8 +3,8 @@ use Rattle.std.specs.Prelude.{true, [], None}
 use Rattle.driver.specs.Line.{Line}
 use Rattle.fifo.specs.declared.inline.Inline.{Inline}
 use Rattle.fifo.specs.Inline.{items_in, room_in}
-use Rattle.serial.specs.declared.Serial.{Serial}
-use Rattle.serial.specs.Serial.{serial_line}
+use Rattle.driver.specs.declared.serial.Serial.{Serial}
+use Rattle.driver.specs.Serial.{serial_line}
 
 abbrev pub looping_line : Serial (Inline 64) 1 → Line
 looping_line d = serial_line items_in room_in true d

@@ -6,8 +6,8 @@ use Rattle.item.specs.Numbers.{number}
 use Rattle.ring.specs.declared.Ring.{Ring}
 use Rattle.ring.specs.Elements as ring
 use Rattle.driver.specs.Line.{Line}
-use Rattle.serial.specs.declared.Serial.{Serial}
-use Rattle.serial.specs.Serial.{serial_line}
+use Rattle.driver.specs.declared.serial.Serial.{Serial}
+use Rattle.driver.specs.Serial.{serial_line}
 
 abbrev pub Uart : Type 0
 Uart = Serial (Ring Item) 0

@@ -2,8 +2,8 @@
 ghost use Rattle.std.specs.Prelude.{◌≡◌};
 ghost use Rattle.drivers.specs.Looping.{looping_line, just_made};
 
+use driver::serial::Serial;
 use fifo::inline::Inline;
-use serial::Serial;
 
 pub type LoopDriver = Serial<Inline<64>, true>;
 

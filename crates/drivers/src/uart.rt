@@ -2,9 +2,9 @@
 ghost use Rattle.std.specs.Prelude.{◌≡◌, true, false};
 ghost use Rattle.drivers.specs.Uart.{Memory, SameMemory, Fits, LaysOut, uart_line, no_places};
 
+use driver::serial::Serial;
 use item::{Item, Refusal};
 use ring::Ring;
-use serial::Serial;
 
 pub type Uart<'a> = Serial<Ring<'a, Item>, false>;
 

@@ -1,8 +1,12 @@
 -- What a list in its own record holds, first to last: its cells are used as a ring's are.
-use Rattle.std.specs.Prelude.{ℕ, min, List, length}
+use Rattle.std.specs.Prelude.{ℕ, min, cond, List, length, nat_le}
 use Rattle.item.specs.declared.Item.{Item}
-use Rattle.ring.specs.Elements.{held, within, places}
+use Rattle.ring.specs.Elements.{held, within}
 use Rattle.fifo.specs.declared.inline.Inline.{Inline}
+
+-- how many places n cells make: all of them, if they are not too many
+abbrev pub places : ℕ → ℕ → ℕ
+places most n = cond (nat_le n most) n 0
 
 abbrev pub room_in : {n : ℕ} → Inline n → ℕ
 room_in q = places 4096 (length q.cells)

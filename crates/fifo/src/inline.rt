@@ -2,12 +2,11 @@
 // counts as within it.
 ghost use Rattle.std.specs.Prelude.{◌≡◌, ◌<◌, ◌≤◌, true, false, [], ◌∷◌, ◌++◌, length};
 ghost use Rattle.item.specs.First.{rest};
-ghost use Rattle.ring.specs.Elements.{places};
-ghost use Rattle.fifo.specs.Inline.{place_in, count_in, items_in, room_in};
+ghost use Rattle.fifo.specs.Inline.{places, place_in, count_in, items_in, room_in};
 
-use crate::Fifo;
+use crate::{cell_after, cell_behind};
+use driver::fifo::Fifo;
 use item::{Item, Refusal};
-use ring::{cell_after, cell_behind};
 
 /// The most places of a list.
 pub const MOST: usize = 4096;

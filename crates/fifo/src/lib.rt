@@ -1,43 +1,28 @@
-// A list of items with a fixed capacity: what a driver keeps its items in.
-// Promises: every such list does what specs/Calls.antt says of it, and a refused call changes nothing.
+// A list of items with a fixed capacity that lies in its own record: what a driver without memory handed over keeps its items in.
+// Promises: it does what the driver's interface says of such a list, and a refused call changes nothing.
 #![tactic(auto)]
 
 pub mod inline;
-pub mod rings;
 
-ghost use Rattle.std.specs.Prelude.{◌≡◌, ℕ, ◌≤◌, List, [], length};
-ghost use Rattle.item.specs.declared.Item.{Item};
-ghost use Rattle.item.specs.First.{Leads};
-ghost use Rattle.fifo.specs.Calls.{Puts, Takes};
+ghost use Rattle.std.specs.Prelude.{◌≡◌, ◌+◌, ◌-◌, ◌<◌, ◌≤◌};
 
-use item::{Item, Refusal};
+/// The cell behind `len` elements that begin at the cell `head`, wrapping at the last of `cells` cells.
+fn cell_behind(cells: usize, head: usize, len: usize) -> usize
+    requires head { head < cells }
+    requires room { len < cells }
+    ensures plain { len < cells - head → result ≡ head + len }
+    ensures wraps { cells - head ≤ len → result ≡ len - (cells - head) }
+    ensures fits { result < cells }
+{
+    let above = cells - head;
+    if len < above { head + len } else { len - above }
+}
 
-pub trait Fifo {
-    ghost items: { Self → List Item };
-
-    ghost room: { Self → ℕ };
-
-    /// One more at the end. Refused 8 exactly when the list is full.
-    fn put(&mut self, x: Item) -> Result<(), Refusal>
-        ensures puts { Puts items room self.old x result self.new };
-
-    /// The first leaves, or none exactly when the list is empty.
-    fn take(&mut self) -> Option<Item>
-        ensures takes { Takes items room self.old result self.new };
-
-    /// The first item; it stays.
-    fn first(&self) -> Option<Item>
-        ensures leads { Leads (items self.now) result };
-
-    fn clear(&mut self)
-        ensures empty { items self.new ≡ [] }
-        ensures room { room self.new ≡ room self.old };
-
-    fn count(&self) -> usize
-        ensures value { result ≡ length (items self.now) }
-        ensures within { result ≤ room self.now };
-
-    fn capacity(&self) -> usize
-        ensures value { result ≡ room self.now }
-        ensures bound { result ≤ 4096 };
+/// The cell after `head`, wrapping at the last.
+fn cell_after(cells: usize, head: usize) -> usize
+    requires { head < cells }
+    ensures wraps { head + 1 ≡ cells → result ≡ 0 }
+    ensures plain { (head + 1 ≡ cells → ⊥) → result ≡ head + 1 }
+{
+    if head + 1 == cells { 0 } else { head + 1 }
 }

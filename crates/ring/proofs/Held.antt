@@ -101,7 +101,7 @@ length_elements r =
     length_held r.cells.now (place_of r) (count_of r) (grind (arith, nat_tests)) (capped r.laid r.len (length r.cells.now))
 
 -- the place where the elements begin lies among the cells, if there are any
-placed : (h c : ℕ) → 0 < c → within h c < c
+pub placed : (h c : ℕ) → 0 < c → within h c < c
 placed h c p = grind (arith, nat_tests)
 
 capacity_within : (laid : Bool) (c : ℕ) → cond laid c 0 ≤ c

@@ -30,6 +30,10 @@ pub record SameMemory {X : Type 0} (a b : Ring X) : Type 0 where
   pub long : length b.cells.now ≡ length a.cells.now
   pub same : b.cells.ghost_name ≡ a.cells.ghost_name
 
+-- memory for 1 to 1,024 places
+abbrev pub Fits : {X : Type 0} → Ring X → Type 0
+Fits r = (0 < length r.cells.now) × (length r.cells.now ≤ 1024)
+
 -- laid out: as many places as there is memory for, which is 1 to 1,024, and none taken; refused 12 exactly otherwise
 abbrev pub LaysOut : {X : Type 0} → Ring X → Result (Unit {0}) Refusal → Ring X → Type 0
 LaysOut a (Ok _) b = (0 < length a.cells.now) × (length a.cells.now ≤ 1024) × (capacity_of b ≡ length a.cells.now) × (elements b ≡ []) × (b.cells.now ≡ a.cells.now)

@@ -5,7 +5,7 @@
 #![tactic(auto)]
 
 ghost use Rattle.std.specs.Prelude.{◌≡◌, ◌+◌, ◌<◌, ◌≤◌, true, false, [], ◌∷◌, ◌++◌, length, ◌==◌};
-ghost use Rattle.ring.specs.Elements.{elements, capacity_of, place_of, count_of, SameMemory, LaysOut, Puts, Takes};
+ghost use Rattle.ring.specs.Elements.{elements, capacity_of, place_of, count_of, SameMemory, Fits, LaysOut, Puts, Takes};
 ghost use Rattle.item.specs.First.{rest, Leads};
 
 use item::Refusal;
@@ -35,6 +35,14 @@ impl<'a, T: Copy> Ring<'a, T> {
             head: 0,
             len: 0,
         }
+    }
+
+    /// Is the memory enough for a ring, and not too much: 1 to 1,024 places?
+    pub fn fits(&self) -> bool
+        ensures yes { result ≡ true → Fits self.now }
+        ensures no { result ≡ false → Fits self.now → ⊥ }
+    {
+        self.cells.len() > 0 && self.cells.len() <= MOST
     }
 
     /// Takes all the memory for places, and empties the ring. Refused 12 where that is none or more than 1,024.

@@ -16,12 +16,12 @@ pub fn arrive_some<D: Driver>(driver: &mut D, items: &[Item]) -> usize
     ensures room { result ≡ min (length items.now) (free (D.Driver.line driver.old)) }
     ensures arrives { D.Driver.line driver.new ≡ with_waiting (D.Driver.line driver.old) ((D.Driver.line driver.old).waiting ++ take result items.now) }
 {
-    let free = driver.waiting_room() - driver.waiting();
+    let free = driver.waiting_room().saturating_sub(driver.waiting());
     let taken = items.len().min(free);
     let (some, _) = items.split_at(taken);
     match driver.arrive(some) {
         Ok(()) => taken,
-        Err(_) => unreachable(),
+        Err(_) => 0,
     }
 }
 

@@ -1,4 +1,4 @@
-use Rattle.std.proofs.Common.{vec_items, ap, ◌∙◌}
+use Rattle.std.proofs.Common.{ap, ◌∙◌}
 use Rattle.driver.specs.Line.{Line, with_waiting}
 use Rattle.item.proofs.More.{moved}
 use Rattle.wire.proofs.fetch_all.Goals as goal

@@ -1,6 +1,6 @@
-use Rattle.std.proofs.Common.{refl, ap, arith}
+use Rattle.std.proofs.Common.{ap, arith}
 use Rattle.std.proofs.lemmas.List.{length-set}
-use Rattle.ring.specs.Elements.{places}
+use Rattle.fifo.specs.Inline.{places}
 use Rattle.fifo.proofs.InRecord.{added}
 use Rattle.fifo.proofs.inline.Inline.add.Goals as goal
 

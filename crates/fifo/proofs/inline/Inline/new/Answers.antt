@@ -1,7 +1,7 @@
 use Rattle.std.proofs.Common.{replicate, refl, ap}
 use Rattle.item.specs.declared.Item.TheVariants.{End}
 use Rattle.std.proofs.lemmas.List.{length-replicate}
-use Rattle.ring.specs.Elements.{places}
+use Rattle.fifo.specs.Inline.{places}
 use Rattle.fifo.proofs.InRecord.{none}
 use Rattle.fifo.proofs.inline.Inline.new.Goals as goal
 

@@ -1,4 +1,3 @@
-use Rattle.std.proofs.Common.{◌∷◌, sym, ap, ◌∙◌}
 use Rattle.item.specs.declared.Item.TheVariants.{Byte}
 use Rattle.fifo.proofs.InRecord.{peeked}
 use Rattle.fifo.proofs.inline.Inline.peek.Goals as goal

@@ -1,4 +1,4 @@
-use Rattle.std.proofs.Common.{◌≡◌, length, refl, subst, arith}
+use Rattle.std.proofs.Common.{refl, arith}
 use Rattle.item.specs.declared.Item.TheVariants.{Byte}
 use Rattle.fifo.proofs.InRecord.{pulled}
 use Rattle.fifo.proofs.inline.Inline.pull.Goals as goal
