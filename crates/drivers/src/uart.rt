@@ -12,6 +12,7 @@ pub type Uart<'a> = Serial<Ring<'a, Item>, false>;
 pub fn over<'a>(waiting: &'a mut [Item], records: &'a mut [Item], echo: &'a mut [Item]) -> Uart<'a>
     ensures places { uart_line result ≡ no_places }
     ensures memory { Memory result waiting.old records.old echo.old }
+    ensures lent { (result.waiting.cells.ghost_name ≡ waiting.entry.ghost_name) × (result.records.cells.ghost_name ≡ records.entry.ghost_name) × (result.echo.cells.ghost_name ≡ echo.entry.ghost_name) }
 {
     Serial::new(Ring::over(waiting), Ring::over(records), Ring::over(echo))
 }

@@ -1,7 +1,8 @@
 // The bench terminal at a serial line. What is typed comes as standard input, or is a sample line about a lot of butter. It arrives
 // at the UART, and what goes out is sent there: the echo, and an answer to each line. For each line it prints the order on the
 // line, what the reader gets, the frame that goes to the scaler and what the scaler reads from it, also where the frame is damaged
-// on the way. The work is done, and proved, in the crates below; this one prints.
+// on the way. What becomes of the items is worked out, and proved, in the crates below; this one cuts a line into bursts that the
+// UART has room for, answers it, and prints.
 #![tactic(auto)]
 
 mod report;
