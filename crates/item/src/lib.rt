@@ -6,7 +6,7 @@ ghost use Rattle.std.specs.Prelude.{◌≡◌};
 ghost use Rattle.item.specs.Numbers.{number, band_number, lane_number};
 
 /// What a lane carries: a byte, the END of a record, or NOTE k with k from 1 to 255.
-#[derive(Clone, Copy)]
+#[derive(Clone, Copy, Debug, PartialEq, Eq)]
 pub enum Item {
     Byte(u8),
     End,
@@ -14,44 +14,57 @@ pub enum Item {
 }
 
 /// What goes down is told apart on the line by its band.
-#[derive(Clone, Copy)]
+#[derive(Clone, Copy, Debug, PartialEq, Eq)]
 pub enum Band {
-    Records,
-    Echo,
+    Records = 0,
+    Echo = 1,
 }
 
 /// The ways through a level: up to the reader, or down to the line on a band. Each is a lane.
-#[derive(Clone, Copy)]
+#[derive(Clone, Copy, Debug, PartialEq, Eq)]
 pub enum Way {
     Up,
     Down(Band),
 }
 
 /// Why a call refuses. A refused call changes nothing.
-#[derive(Clone, Copy)]
+#[derive(Clone, Copy, Debug, PartialEq, Eq)]
 pub enum Refusal {
-    NotOpen,
-    NoService,
-    NotEnabled,
-    NoClaim,
-    DoesNotFit,
-    TooFewBytes,
-    BufferTooShort,
-    NoSpace,
-    Nothing,
-    NoMessageBlock,
-    NoDataBlock,
-    OutOfBounds,
+    NotOpen = 1,
+    NoService = 2,
+    NotEnabled = 3,
+    NoClaim = 4,
+    DoesNotFit = 5,
+    TooFewBytes = 6,
+    BufferTooShort = 7,
+    NoSpace = 8,
+    Nothing = 9,
+    NoMessageBlock = 10,
+    NoDataBlock = 11,
+    OutOfBounds = 12,
+}
+
+impl From<Band> for u8 {
+    ghost from_gives = { λ b r. r ≡ band_number b };
+
+    fn from(band: Band) -> u8 {
+        band as u8
+    }
+}
+
+impl From<Refusal> for u8 {
+    ghost from_gives = { λ e r. r ≡ number e };
+
+    fn from(refusal: Refusal) -> u8 {
+        refusal as u8
+    }
 }
 
 impl Band {
     pub fn number(self) -> u8
         ensures value { result ≡ band_number self }
     {
-        match self {
-            Band::Records => 0,
-            Band::Echo => 1,
-        }
+        u8::from(self)
     }
 }
 
@@ -71,19 +84,6 @@ impl Refusal {
     pub fn number(self) -> u8
         ensures value { result ≡ number self }
     {
-        match self {
-            Refusal::NotOpen => 1,
-            Refusal::NoService => 2,
-            Refusal::NotEnabled => 3,
-            Refusal::NoClaim => 4,
-            Refusal::DoesNotFit => 5,
-            Refusal::TooFewBytes => 6,
-            Refusal::BufferTooShort => 7,
-            Refusal::NoSpace => 8,
-            Refusal::Nothing => 9,
-            Refusal::NoMessageBlock => 10,
-            Refusal::NoDataBlock => 11,
-            Refusal::OutOfBounds => 12,
-        }
+        u8::from(self)
     }
 }
