@@ -1,91 +1,65 @@
 // A byte buffer of fixed size in its own record: the line that a discipline holds, the body of a frame.
-// Every value of the type is a buffer, so it asks for no invariant: a length past the end counts as the end.
-// Promises: each call does to the list of bytes held what its name says.
+// In a contract a buffer is the list of the bytes that it holds.
+// Promises: each call does to that list what its name says, and a refused one changes nothing.
 #![tactic(auto)]
 
-ghost use Rattle.std.specs.Prelude.{◌≡◌, ◌-◌, ◌<◌, ◌≤◌, [], ◌∷◌, ◌++◌, length, take, if◌then◌else◌, nat_lt};
-ghost use Rattle.buffer.specs.Held.{held};
+ghost use Rattle.std.specs.Prelude.{◌≡◌, ℕ, ◌-◌, ◌≤◌, List, [], length, take};
+ghost use Rattle.buffer.specs.Pushed.{Pushes};
+
+use arrayvec::ArrayVec;
+use item::Refusal;
+use std::marker::Model;
 
 #[derive(Drop)]
 pub struct Buffer<const N: usize> {
-    bytes: [u8; N],
-    len: usize,
+    bytes: ArrayVec<u8, N>,
+}
+
+impl<const N: usize> Model for Buffer<N> {
+    ghost Value = { List ℕ };
+
+    ghost view = { λ b. b.bytes.items };
 }
 
 impl<const N: usize> Buffer<N> {
     pub fn new() -> Buffer<N>
-        ensures empty { held result ≡ [] }
+        ensures empty { result ≡ [] }
     {
         Buffer {
-            bytes: [0; N],
-            len: 0,
+            bytes: ArrayVec::new(),
         }
-    }
-
-    // N, which is how many bytes there are.
-    fn capacity(&self) -> usize
-        ensures value { result ≡ N }
-        ensures long { length self.now.bytes ≡ N }
-    {
-        let whole = &self.bytes[..];
-        whole.len()
     }
 
     pub fn len(&self) -> usize
-        ensures value { result ≡ length (held self.now) }
+        ensures value { result ≡ length self.now }
         ensures within { result ≤ N }
     {
-        self.len.min(self.capacity())
+        self.bytes.len()
     }
 
     pub fn as_slice(&self) -> &[u8]
-        ensures value { result.now ≡ held self.now }
+        ensures value { result.now ≡ self.now }
     {
-        let whole = &self.bytes[..];
-        let len = self.len.min(whole.len());
-        &whole[0..len]
+        self.bytes.as_slice()
     }
 
-    // Adds a byte behind the others, where there is room.
-    fn append(&mut self, b: u8)
-        requires { length (held self.old) < N }
-        ensures appends { held self.new ≡ held self.old ++ (b ∷ []) }
+    /// Adds a byte behind the others. Refused 8 exactly where N are held.
+    pub fn push(&mut self, b: u8) -> Result<(), Refusal>
+        ensures pushes { Pushes N self.old b result self.new }
     {
-        let len = self.len();
-        self.bytes[len] = b;
-        self.len = len + 1;
-    }
-
-    // Keeps the first n bytes.
-    fn keep(&mut self, n: usize)
-        ensures keeps { held self.new ≡ take n (held self.old) }
-    {
-        self.len = self.len().min(n);
-    }
-
-    /// Adds a byte behind the others; false, and no change, where N are held.
-    pub fn push(&mut self, b: u8) -> bool
-        ensures room { result ≡ nat_lt (length (held self.old)) N }
-        ensures pushes { held self.new ≡ (if result then held self.old ++ (b ∷ []) else held self.old) }
-    {
-        if self.len() < N {
-            self.append(b);
-            true
-        } else {
-            false
-        }
+        self.bytes.try_push(b).map_err(|_| Refusal::NoSpace)
     }
 
     /// Drops the last byte, if there is one.
     pub fn pop(&mut self)
-        ensures pops { held self.new ≡ take (length (held self.old) - 1) (held self.old) }
+        ensures pops { self.new ≡ take (length self.old - 1) self.old }
     {
-        self.keep(self.len().saturating_sub(1));
+        let _last = self.bytes.pop();
     }
 
     pub fn clear(&mut self)
-        ensures empty { held self.new ≡ [] }
+        ensures empty { self.new ≡ [] }
     {
-        self.len = 0;
+        self.bytes.clear();
     }
 }

@@ -1,17 +1,16 @@
 // The lanes of the canonical discipline: a line is edited and echoed on the way up, and its end is spelled out on the
 // way down.
-ghost use Rattle.std.specs.Prelude.{◌≡◌, ℕ, true, false, List, []};
-ghost use Rattle.buffer.specs.Held.{held};
+ghost use Rattle.std.specs.Prelude.{◌≡◌, ℕ, List, []};
 ghost use Rattle.lane.specs.Few.{items};
 ghost use Rattle.lane.specs.Reply.{both};
 ghost use Rattle.disciplines.specs.Canonical.{echo_of, erased, added, up_rule, down_rule, LineBounded};
-ghost use Rattle.disciplines.specs.Views.{up_held, Free, Busy};
+ghost use Rattle.disciplines.specs.Views.{up_held};
 
-use buffer::Buffer;
 use item::{Item, Refusal};
 use lane::few::Few;
 use lane::machine::Machine;
 use lane::reply::ReplyLane;
+use spool::Spool;
 
 const BELL: u8 = 7;
 
@@ -25,18 +24,10 @@ const SPACE: u8 = 32;
 
 const LONGEST: usize = 255;
 
-/// What goes on: a few items, or the line held, from a place on, and its end.
-#[derive(Clone, Copy)]
-enum Ready {
-    Items(Few),
-    Line { from: usize, newline: bool },
-}
-
 /// The up lane. A line that is done is given out from where it was held.
 #[derive(Drop)]
 pub struct CanonicalUp {
-    line: Buffer<LONGEST>,
-    up: Ready,
+    line: Spool<LONGEST>,
     echo: Few,
 }
 
@@ -62,10 +53,11 @@ fn echo_of(b: u8) -> Few
 }
 
 /// Drops the last byte held, and tells the echo.
-fn erase(line: &mut Buffer<LONGEST>) -> Few
-    ensures erases { both (held line.new) [] (items result) ≡ erased (held line.old) }
+fn erase(line: &mut Spool<LONGEST>) -> Few
+    requires { line.old.ready ≡ [] }
+    ensures erases { both line.new.held line.new.ready (items result) ≡ erased line.old.held }
 {
-    if line.len() == 0 {
+    if line.held().is_empty() {
         return Few::Zero;
     }
     line.pop();
@@ -78,30 +70,13 @@ fn erase(line: &mut Buffer<LONGEST>) -> Few
 }
 
 /// Holds one more byte, if there is room, and tells the echo.
-fn hold(line: &mut Buffer<LONGEST>, b: u8) -> Few
-    ensures adds { both (held line.new) [] (items result) ≡ added (held line.old) b }
+fn hold(line: &mut Spool<LONGEST>, b: u8) -> Few
+    requires { line.old.ready ≡ [] }
+    ensures adds { both line.new.held line.new.ready (items result) ≡ added line.old.held b }
 {
-    if line.push(b) {
-        echo_of(b)
-    } else {
-        Few::Two(Item::Byte(BELL), Item::End)
-    }
-}
-
-impl CanonicalUp {
-    /// Says whether both lists are empty, so that a step may be made.
-    fn is_free(&self) -> bool
-        ensures free { result ≡ true → Free self.now }
-        ensures busy { result ≡ false → Busy self.now }
-    {
-        match self.up {
-            Ready::Items(Few::Zero) => match self.echo {
-                Few::Zero => true,
-                _ => false,
-            },
-            Ready::Items(_) => false,
-            Ready::Line { .. } => false,
-        }
+    match line.push(b) {
+        Ok(()) => echo_of(b),
+        Err(_) => Few::Two(Item::Byte(BELL), Item::End),
     }
 }
 
@@ -114,76 +89,38 @@ impl ReplyLane for CanonicalUp {
 
     fn new() -> CanonicalUp {
         CanonicalUp {
-            line: Buffer::new(),
-            up: Ready::Items(Few::Zero),
+            line: Spool::new(),
             echo: Few::Zero,
         }
     }
 
     fn step(&mut self, x: Item) -> Result<(), Refusal> {
-        if !self.is_free() {
+        if self.first().is_some() || self.first_reply().is_some() {
             return Err(Refusal::NoSpace);
         }
         match x {
             Item::Byte(LINE_FEED | RETURN) => {
-                self.up = Ready::Line {
-                    from: 0,
-                    newline: true,
-                };
+                self.line.give(Few::Two(Item::Byte(LINE_FEED), Item::End));
                 self.echo = Few::Three(Item::Byte(RETURN), Item::Byte(LINE_FEED), Item::End);
             }
             Item::Byte(ERASE) => self.echo = erase(&mut self.line),
             Item::Byte(b) => self.echo = hold(&mut self.line, b),
             Item::End => {
-                if self.line.len() > 0 {
-                    self.up = Ready::Line {
-                        from: 0,
-                        newline: false,
-                    };
+                if !self.line.held().is_empty() {
+                    self.line.give(Few::One(Item::End));
                 }
             }
-            Item::Note(_) => self.up = Ready::Items(Few::One(x)),
+            Item::Note(_) => self.line.say(Few::One(x)),
         }
         Ok(())
     }
 
     fn first(&self) -> Option<Item> {
-        match self.up {
-            Ready::Items(few) => few.first(),
-            Ready::Line { from, newline } => {
-                let line = self.line.as_slice();
-                if from < line.len() {
-                    Some(Item::Byte(line[from]))
-                } else if newline {
-                    Some(Item::Byte(LINE_FEED))
-                } else {
-                    Some(Item::End)
-                }
-            }
-        }
+        self.line.first()
     }
 
     fn take(&mut self) -> Option<Item> {
-        match &mut self.up {
-            Ready::Items(few) => few.take(),
-            Ready::Line { from, newline } => {
-                let i = *from;
-                let line = self.line.as_slice();
-                if i < line.len() {
-                    *from = i + 1;
-                    return Some(Item::Byte(line[i]));
-                }
-                let more = *newline;
-                self.line.clear();
-                if more {
-                    self.up = Ready::Items(Few::One(Item::End));
-                    Some(Item::Byte(LINE_FEED))
-                } else {
-                    self.up = Ready::Items(Few::Zero);
-                    Some(Item::End)
-                }
-            }
-        }
+        self.line.take()
     }
 
     fn first_reply(&self) -> Option<Item> {

@@ -1,14 +1,15 @@
 // The lane up: frames are read, and what is no whole frame is told by a NOTE.
-ghost use Rattle.std.specs.Prelude.{◌≡◌, ◌+◌, ◌<◌, [], ◌∷◌, MatchOption};
-ghost use Rattle.buffer.specs.Held.{held};
-ghost use Rattle.framer.specs.Frame.{xor_of, Place, joined, ending, up_rule};
-ghost use Rattle.framer.specs.Views.{window, ready_list, up_held};
+ghost use Rattle.std.specs.Prelude.{◌≡◌, []};
+ghost use Rattle.lane.specs.Few.{items};
+ghost use Rattle.lane.specs.Rule.{holding};
+ghost use Rattle.framer.specs.Frame.{xor_of, Place, hunting, body, joined, ending, up_rule};
+ghost use Rattle.framer.specs.Views.{up_held};
 
 use crate::{ESCAPE, FLIP, LONGEST, START, STOP};
-use buffer::Buffer;
 use item::{Item, Refusal};
 use lane::Lane;
 use lane::few::Few;
+use spool::Spool;
 
 // START, STOP and ESCAPE, as they stand behind ESCAPE.
 const START_FLIPPED: u8 = START ^ FLIP;
@@ -34,22 +35,14 @@ enum At {
     Escaped,
 }
 
-// What is ready: a few items, or the bytes of the body from one place on, before another, and END.
-#[derive(Clone, Copy)]
-enum Ready {
-    Items(Few),
-    Record { from: usize, to: usize },
-}
-
-/// Where the reader is, the body so far, and what is ready.
+/// Where the reader is, and the body so far; a whole one is given out from where it was gathered.
 #[derive(Drop)]
 pub struct FrameUp {
     at: At,
-    body: Buffer<LONGEST>,
-    ready: Ready,
+    body: Spool<LONGEST>,
 }
 
-// The exclusive or of some bytes: 0 for a body with its check byte.
+// The exclusive or of some bytes: 0 for a body with its check byte. A loop over the elements is the form wanted for it.
 fn check(s: &[u8]) -> u8
     ensures value { result ≡ xor_of s.now }
 {
@@ -61,43 +54,46 @@ fn check(s: &[u8]) -> u8
 }
 
 impl FrameUp {
-    // The byte of the body at `from`, if that is before `to` and before the body's end.
-    fn next(&self, from: usize, to: usize) -> Option<u8>
-        ensures leads { MatchOption result (window from to (held self.now.body) ≡ []) (λ b. (from < to) × (window from to (held self.now.body) ≡ b ∷ window (from + 1) to (held self.now.body))) }
+    // Begins an empty body.
+    fn begin(&mut self)
+        requires { self.old.body.ready ≡ [] }
+        ensures begins { up_held self.new ≡ holding (body []) [] }
     {
-        let bytes = self.body.as_slice();
-        if from < to && from < bytes.len() {
-            Some(bytes[from])
-        } else {
-            None
-        }
+        self.at = At::Inside;
+        self.body.clear();
     }
 
-    // What is ready when STOP ends the body.
-    fn ended(&self) -> Ready
-        ensures gives { ready_list result (held self.now.body) ≡ ending (held self.now.body) }
+    // Drops the body, and tells why.
+    fn give_up(&mut self, why: Few)
+        requires { self.old.body.ready ≡ [] }
+        ensures tells { up_held self.new ≡ holding hunting (items why) }
     {
-        let bytes = self.body.as_slice();
-        if bytes.len() > 0 && check(bytes) == 0 {
-            Ready::Record {
-                from: 0,
-                to: bytes.len() - 1,
-            }
-        } else {
-            Ready::Items(Few::One(Item::Note(FAILED)))
+        self.at = At::Hunting;
+        self.body.say(why);
+    }
+
+    // STOP ends the body.
+    fn end(&mut self)
+        requires { self.old.body.ready ≡ [] }
+        ensures gives { up_held self.new ≡ holding hunting (ending self.old.body.held) }
+    {
+        let body = self.body.held();
+        if body.is_empty() || check(body) != 0 {
+            return self.give_up(Few::One(Item::Note(FAILED)));
         }
+        self.at = At::Hunting;
+        self.body.pop();
+        self.body.give(Few::One(Item::End));
     }
 
     // Adds a byte to the body.
     fn join(&mut self, b: u8)
-        ensures joins { up_held self.new ≡ joined (held self.old.body) b }
+        requires { self.old.body.ready ≡ [] }
+        ensures joins { up_held self.new ≡ joined self.old.body.held b }
     {
-        if self.body.push(b) {
-            self.at = At::Inside;
-            self.ready = Ready::Items(Few::Zero);
-        } else {
-            self.at = At::Hunting;
-            self.ready = Ready::Items(Few::One(Item::Note(TOO_LONG)));
+        match self.body.push(b) {
+            Ok(()) => self.at = At::Inside,
+            Err(_) => self.give_up(Few::One(Item::Note(TOO_LONG))),
         }
     }
 }
@@ -112,76 +108,39 @@ impl Lane for FrameUp {
     fn new() -> FrameUp {
         FrameUp {
             at: At::Hunting,
-            body: Buffer::new(),
-            ready: Ready::Items(Few::Zero),
+            body: Spool::new(),
         }
     }
 
     fn step(&mut self, x: Item) -> Result<(), Refusal> {
-        match self.ready {
-            Ready::Items(Few::Zero) => {}
-            Ready::Items(_) => return Err(Refusal::NoSpace),
-            Ready::Record { .. } => return Err(Refusal::NoSpace),
+        if self.first().is_some() {
+            return Err(Refusal::NoSpace);
         }
         match (self.at, x) {
-            (At::Hunting, Item::Byte(START)) => {
-                self.at = At::Inside;
-                self.body.clear();
-            }
+            (At::Hunting, Item::Byte(START)) => self.begin(),
             (At::Hunting, Item::Byte(_)) | (_, Item::End) => {}
             (_, Item::Byte(START)) => {
-                self.at = At::Inside;
-                self.body.clear();
-                self.ready = Ready::Items(Few::One(Item::Note(BROKEN)));
+                self.begin();
+                self.body.say(Few::One(Item::Note(BROKEN)));
             }
-            (At::Inside, Item::Byte(STOP)) => {
-                self.at = At::Hunting;
-                self.ready = self.ended();
-            }
+            (At::Inside, Item::Byte(STOP)) => self.end(),
             (At::Inside, Item::Byte(ESCAPE)) => self.at = At::Escaped,
             (At::Inside, Item::Byte(b)) => self.join(b),
             (At::Escaped, Item::Byte(START_FLIPPED)) => self.join(START),
             (At::Escaped, Item::Byte(STOP_FLIPPED)) => self.join(STOP),
             (At::Escaped, Item::Byte(ESCAPE_FLIPPED)) => self.join(ESCAPE),
-            (At::Escaped, Item::Byte(_)) => {
-                self.at = At::Hunting;
-                self.ready = Ready::Items(Few::One(Item::Note(BROKEN)));
-            }
-            (At::Hunting, Item::Note(_)) => self.ready = Ready::Items(Few::One(x)),
-            (_, Item::Note(_)) => {
-                self.at = At::Hunting;
-                self.ready = Ready::Items(Few::Two(Item::Note(BROKEN), x));
-            }
+            (At::Escaped, Item::Byte(_)) => self.give_up(Few::One(Item::Note(BROKEN))),
+            (At::Hunting, Item::Note(_)) => self.body.say(Few::One(x)),
+            (_, Item::Note(_)) => self.give_up(Few::Two(Item::Note(BROKEN), x)),
         }
         Ok(())
     }
 
     fn first(&self) -> Option<Item> {
-        match self.ready {
-            Ready::Items(few) => few.first(),
-            Ready::Record { from, to } => match self.next(from, to) {
-                Some(b) => Some(Item::Byte(b)),
-                None => Some(Item::End),
-            },
-        }
+        self.body.first()
     }
 
     fn take(&mut self) -> Option<Item> {
-        match &mut self.ready {
-            Ready::Items(few) => few.take(),
-            Ready::Record { from, to } => {
-                let (i, n) = (*from, *to);
-                match self.next(i, n) {
-                    Some(b) => {
-                        self.ready = Ready::Record { from: i + 1, to: n };
-                        Some(Item::Byte(b))
-                    }
-                    None => {
-                        self.ready = Ready::Items(Few::Zero);
-                        Some(Item::End)
-                    }
-                }
-            }
-        }
+        self.body.take()
     }
 }

@@ -21,16 +21,6 @@ pub record Rule (S : Type 0) : Type 0 where
 abbrev pub started : {S : Type 0} → Rule S → Held S
 started rule = holding rule.first []
 
--- a list without its first item
-abbrev pub rest : List Item → List Item
-rest [] = []
-rest (x ∷ xs) = xs
-
--- a question about a list tells its first item, or none exactly when it is empty
-abbrev pub Leads : List Item → Option Item → Type 0
-Leads xs None = xs ≡ []
-Leads xs (Some x) = xs ≡ x ∷ rest xs
-
 -- a step sets state and ready list from the state and the item alone;
 -- it is refused 8 exactly when items are ready, and then changes nothing
 abbrev pub Steps : {S L : Type 0} → Rule S → (L → Held S) → L → Item → Result (Unit {0}) Refusal → L → Type 0

@@ -1,7 +1,8 @@
 // Up to four items: the ready list of most steps.
+// It stays an enum: it can be copied, which the library's vectors of fixed capacity cannot, and a step writes it whole.
 ghost use Rattle.std.specs.Prelude.{◌≡◌, [], ◌∷◌, MatchOption};
 ghost use Rattle.lane.specs.Few.{items};
-ghost use Rattle.lane.specs.Rule.{Leads};
+ghost use Rattle.item.specs.First.{Leads};
 
 use item::Item;
 
@@ -20,10 +21,7 @@ impl Few {
     {
         match self {
             Few::Zero => None,
-            Few::One(a) => Some(a),
-            Few::Two(a, _) => Some(a),
-            Few::Three(a, _, _) => Some(a),
-            Few::Four(a, _, _, _) => Some(a),
+            Few::One(a) | Few::Two(a, _) | Few::Three(a, _, _) | Few::Four(a, _, _, _) => Some(a),
         }
     }
 
@@ -31,24 +29,14 @@ impl Few {
     pub fn take(&mut self) -> Option<Item>
         ensures takes { MatchOption result ((items self.old ≡ []) × (self.new ≡ self.old)) (λ x. items self.old ≡ x ∷ items self.new) }
     {
-        match *self {
-            Few::Zero => None,
-            Few::One(a) => {
-                *self = Few::Zero;
-                Some(a)
-            }
-            Few::Two(a, b) => {
-                *self = Few::One(b);
-                Some(a)
-            }
-            Few::Three(a, b, c) => {
-                *self = Few::Two(b, c);
-                Some(a)
-            }
-            Few::Four(a, b, c, d) => {
-                *self = Few::Three(b, c, d);
-                Some(a)
-            }
-        }
+        let (first, left) = match *self {
+            Few::Zero => return None,
+            Few::One(a) => (a, Few::Zero),
+            Few::Two(a, b) => (a, Few::One(b)),
+            Few::Three(a, b, c) => (a, Few::Two(b, c)),
+            Few::Four(a, b, c, d) => (a, Few::Three(b, c, d)),
+        };
+        *self = left;
+        Some(first)
     }
 }

@@ -9,7 +9,8 @@ pub mod pass;
 pub mod reply;
 
 ghost use Rattle.std.specs.Prelude.{◌≡◌};
-ghost use Rattle.lane.specs.Rule.{Rule, Held, started, Leads, Steps, Takes};
+ghost use Rattle.item.specs.First.{Leads};
+ghost use Rattle.lane.specs.Rule.{Rule, Held, started, Steps, Takes};
 
 use item::{Item, Refusal};
 

@@ -1,6 +1,6 @@
 // A lane whose steps set two lists: one that goes on, and a reply that goes back. The up lane of a discipline is one.
 ghost use Rattle.std.specs.Prelude.{◌≡◌, []};
-ghost use Rattle.lane.specs.Rule.{Leads};
+ghost use Rattle.item.specs.First.{Leads};
 ghost use Rattle.lane.specs.Reply.{ReplyRule, Both, both, begun, silent, Replies, TakesReady, TakesReply};
 
 use crate::Lane;

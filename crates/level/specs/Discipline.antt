@@ -6,7 +6,8 @@ use Rattle.item.specs.declared.Way.{Way}
 use Rattle.item.specs.declared.Way.TheVariants.{Up, Down}
 use Rattle.item.specs.declared.Refusal.{Refusal}
 use Rattle.item.specs.Numbers.{number}
-use Rattle.lane.specs.Rule.{Held, Rule, started, rest}
+use Rattle.item.specs.First.{rest}
+use Rattle.lane.specs.Rule.{Held, Rule, started}
 use Rattle.lane.specs.Reply.{Both, both, ReplyRule, begun}
 use Rattle.level.specs.Module.{shorter}
 

@@ -6,7 +6,8 @@ use Rattle.item.specs.declared.Way.{Way}
 use Rattle.item.specs.declared.Way.TheVariants.{Up, Down}
 use Rattle.item.specs.declared.Refusal.{Refusal}
 use Rattle.item.specs.Numbers.{number}
-use Rattle.lane.specs.Rule.{Held, holding, Rule, started, rest}
+use Rattle.item.specs.First.{rest}
+use Rattle.lane.specs.Rule.{Held, holding, Rule, started}
 
 -- the lanes' types of state, and their rules
 pub record Rules : Type 1 where

@@ -1,6 +1,6 @@
 // A line discipline: an up lane that echoes, and a down lane.
 ghost use Rattle.std.specs.Prelude.{◌≡◌, [], ◌∷◌};
-ghost use Rattle.lane.specs.Rule.{Leads};
+ghost use Rattle.item.specs.First.{Leads};
 ghost use Rattle.level.specs.Discipline.{TopRules, Top, top_started, top_ready, StepsUp, StepsDown, TakesWay};
 
 use item::{Band, Item, Refusal, Way};

@@ -1,6 +1,6 @@
 // A module: up, down and echo lanes.
 ghost use Rattle.std.specs.Prelude.{◌≡◌, [], ◌∷◌};
-ghost use Rattle.lane.specs.Rule.{Leads};
+ghost use Rattle.item.specs.First.{Leads};
 ghost use Rattle.level.specs.Module.{Rules, Level, level_started, ready, StepsAt, TakesAt};
 
 use item::{Band, Item, Refusal, Way};
