@@ -42,10 +42,7 @@ fn read(held: bool, x: Item) -> Few
 fn holds_backslash(held: bool, x: Item) -> bool
     ensures value { result ≡ holds_after held x }
 {
-    match (held, x) {
-        (false, Item::Byte(b'\\')) => true,
-        _ => false,
-    }
+    matches!((held, x), (false, Item::Byte(b'\\')))
 }
 
 #[derive(Clone, Copy)]

@@ -1,4 +1,5 @@
-// A list through a lane.
+// A list through a lane. The lanes that reply have these steps for themselves: a trait over both would need, for each list that goes
+// out, a record that lends the lane, which takes more lines than it saves.
 ghost use Rattle.std.specs.Prelude.{◌≡◌, [], ◌++◌, OnOk};
 ghost use Rattle.lane.specs.Rule.{holding};
 ghost use Rattle.lane.specs.Lists.{stepped, onto, after};
