@@ -1,29 +1,26 @@
 -- What a ring holds, first to last, and what its calls do to that.
-use Rattle.std.specs.Prelude.{◌≡◌, ℕ, ◌<◌, ◌≤◌, min, cond, List, [], ◌∷◌, ◌++◌, length, take, drop, Ok, Err, Result, nat_lt}
+use Rattle.std.specs.Prelude.{◌≡◌, ℕ, ◌<◌, ◌≤◌, min, List, [], ◌∷◌, ◌++◌, length, take, Ok, Err, Result}
 use Rattle.item.specs.declared.Refusal.{Refusal}
 use Rattle.item.specs.Numbers.{number}
 use Rattle.ring.specs.declared.Ring.{Ring}
+use Rattle.ring.specs.Span.{held, within}
 
--- the cells from `h` on, then those before: the first n of them
-abbrev pub held : {X : Type 0} → List X → ℕ → ℕ → List X
-held xs h n = take n (drop h xs ++ take h xs)
+-- the cells that are places: all the memory, once laid out
+abbrev pub places_of : {X : Type 0} → Ring X → List X
+places_of r = take r.places r.cells.now
 
--- a place among c cells; past the end counts as the first
-abbrev pub within : ℕ → ℕ → ℕ
-within h c = cond (nat_lt h c) h 0
-
--- how many places there are: all the memory, once laid out
+-- how many places there are
 abbrev pub capacity_of : {X : Type 0} → Ring X → ℕ
-capacity_of r = cond r.laid (length r.cells.now) 0
+capacity_of r = length (places_of r)
 
 abbrev pub place_of : {X : Type 0} → Ring X → ℕ
-place_of r = within r.head (length r.cells.now)
+place_of r = within r.span.head (capacity_of r)
 
 abbrev pub count_of : {X : Type 0} → Ring X → ℕ
-count_of r = min r.len (capacity_of r)
+count_of r = min r.span.len (capacity_of r)
 
 abbrev pub elements : {X : Type 0} → Ring X → List X
-elements r = held r.cells.now (place_of r) (count_of r)
+elements r = held (places_of r) (place_of r) (count_of r)
 
 -- as many places as before, in the memory that was handed over
 pub record SameMemory {X : Type 0} (a b : Ring X) : Type 0 where

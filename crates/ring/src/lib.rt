@@ -1,13 +1,16 @@
 // A ring over memory handed over, for elements of any kind that can be copied.
-// Every value of the type is a ring, so no call asks anything: a head or a length past the end counts as within it.
+// Every value of the type is a ring, so no call asks anything: a first place or a length past the end counts as within it.
 // Promises: each call does to the list of elements what its name says; put is refused 8 exactly when the ring is full, take 9
 // exactly when it is empty, and a refused call changes nothing, in the ring or in its memory.
 #![tactic(auto)]
 
-ghost use Rattle.std.specs.Prelude.{◌≡◌, ◌+◌, ◌<◌, ◌≤◌, true, false, [], ◌∷◌, ◌++◌, length, ◌==◌};
-ghost use Rattle.ring.specs.Elements.{elements, capacity_of, place_of, count_of, SameMemory, Fits, LaysOut, Puts, Takes};
-ghost use Rattle.item.specs.First.{rest, Leads};
+pub mod span;
 
+ghost use Rattle.std.specs.Prelude.{◌≡◌, ◌<◌, ◌≤◌, true, false, [], length, ◌==◌};
+ghost use Rattle.ring.specs.Elements.{elements, places_of, capacity_of, SameMemory, Fits, LaysOut, Puts, Takes};
+ghost use Rattle.item.specs.First.{Leads};
+
+use crate::span::Span;
 use item::Refusal;
 
 /// The most places of a ring.
@@ -16,9 +19,9 @@ pub const MOST: usize = 1024;
 #[derive(Drop)]
 pub struct Ring<'a, T> {
     cells: &'a mut [T],
-    laid: bool,
-    head: usize,
-    len: usize,
+    /// How many of the cells are places: none until they are laid out.
+    places: usize,
+    span: Span,
 }
 
 impl<'a, T: Copy> Ring<'a, T> {
@@ -31,9 +34,8 @@ impl<'a, T: Copy> Ring<'a, T> {
     {
         Ring {
             cells,
-            laid: false,
-            head: 0,
-            len: 0,
+            places: 0,
+            span: Span::new(),
         }
     }
 
@@ -42,7 +44,7 @@ impl<'a, T: Copy> Ring<'a, T> {
         ensures yes { result ≡ true → Fits self.now }
         ensures no { result ≡ false → Fits self.now → ⊥ }
     {
-        self.cells.len() > 0 && self.cells.len() <= MOST
+        (1..=MOST).contains(&self.cells.len())
     }
 
     /// Takes all the memory for places, and empties the ring. Refused 12 where that is none or more than 1,024.
@@ -50,44 +52,33 @@ impl<'a, T: Copy> Ring<'a, T> {
         ensures lays { LaysOut self.old result self.new }
         ensures lent { SameMemory self.old self.new }
     {
-        if self.cells.len() == 0 || self.cells.len() > MOST {
+        if !self.fits() {
             return Err(Refusal::OutOfBounds);
         }
-        self.laid = true;
-        self.clear();
+        self.places = self.cells.len();
+        self.span = Span::new();
         Ok(())
     }
 
     pub fn capacity(&self) -> usize
         ensures value { result ≡ capacity_of self.now }
+        ensures within { result ≤ length self.now.cells.now }
     {
-        if self.laid { self.cells.len() } else { 0 }
+        self.places.min(self.cells.len())
     }
 
-    // Where the elements begin, within the cells.
-    fn place(&self) -> usize
-        ensures value { result ≡ place_of self.now }
-        ensures fits { 0 < length self.now.cells.now → result < length self.now.cells.now }
+    // The cells that are places.
+    fn places(&self) -> &[T]
+        ensures value { result.now ≡ places_of self.now }
     {
-        if self.head < self.cells.len() {
-            self.head
-        } else {
-            0
-        }
+        &self.cells[..self.capacity()]
     }
-
-    // There are as many elements as are counted, and no more than cells.
-    fn counted(&self)
-        ensures law { length (elements self.now) ≡ count_of self.now }
-        ensures fits { length (elements self.now) ≤ length self.now.cells.now }
-    {}
 
     pub fn len(&self) -> usize
         ensures value { result ≡ length (elements self.now) }
         ensures within { result ≤ capacity_of self.now }
     {
-        self.counted();
-        self.len.min(self.capacity())
+        self.span.len(self.places())
     }
 
     pub fn is_empty(&self) -> bool
@@ -96,73 +87,20 @@ impl<'a, T: Copy> Ring<'a, T> {
         self.len() == 0
     }
 
-    // One more at the end, where there is a place.
-    fn add(&mut self, x: T)
-        requires { length (elements self.old) < capacity_of self.old }
-        ensures adds { elements self.new ≡ elements self.old ++ (x ∷ []) }
-        ensures places { capacity_of self.new ≡ capacity_of self.old }
-        ensures lent { SameMemory self.old self.new }
-    {
-        let len = self.len();
-        let head = self.place();
-        let above = self.cells.len() - head;
-        let at = if len < above { head + len } else { len - above };
-        self.cells[at] = x;
-        self.head = head;
-        self.len = len + 1;
-    }
-
     /// One more at the end. Refused 8 exactly when the ring is full.
     pub fn put(&mut self, x: T) -> Result<(), Refusal>
         ensures puts { Puts self.old x result self.new }
         ensures lent { SameMemory self.old self.new }
     {
-        if self.len() == self.capacity() {
-            return Err(Refusal::NoSpace);
-        }
-        self.add(x);
-        Ok(())
-    }
-
-    // The first leaves, where there is one.
-    fn pull(&mut self) -> T
-        requires { 0 < length (elements self.old) }
-        ensures pulls { elements self.old ≡ result ∷ elements self.new }
-        ensures places { capacity_of self.new ≡ capacity_of self.old }
-        ensures lent { SameMemory self.old self.new }
-    {
-        let len = self.len();
-        let head = self.place();
-        let x = self.cells[head];
-        self.head = if head + 1 == self.cells.len() {
-            0
-        } else {
-            head + 1
-        };
-        self.len = len - 1;
-        x
-    }
-
-    // The first, where there is one.
-    fn peek(&self) -> T
-        requires { 0 < length (elements self.now) }
-        ensures leads { elements self.now ≡ result ∷ rest (elements self.now) }
-    {
-        self.counted();
-        let head = self.place();
-        let cells = &self.cells[..];
-        cells[head]
+        let places = self.capacity();
+        self.span.put(&mut self.cells[..places], x)
     }
 
     /// The first, which stays, or none exactly when the ring is empty.
     pub fn first(&self) -> Option<T>
         ensures leads { Leads (elements self.now) result }
     {
-        if self.is_empty() {
-            None
-        } else {
-            Some(self.peek())
-        }
+        self.span.first(self.places())
     }
 
     /// The first leaves. Refused 9 exactly when the ring is empty.
@@ -170,10 +108,10 @@ impl<'a, T: Copy> Ring<'a, T> {
         ensures takes { Takes self.old result self.new }
         ensures lent { SameMemory self.old self.new }
     {
-        if self.is_empty() {
-            return Err(Refusal::Nothing);
-        }
-        Ok(self.pull())
+        let mut span = self.span;
+        let x = span.take(self.places()).ok_or(Refusal::Nothing)?;
+        self.span = span;
+        Ok(x)
     }
 
     /// Gives every place back; the memory is not touched.
@@ -183,6 +121,6 @@ impl<'a, T: Copy> Ring<'a, T> {
         ensures places { capacity_of self.new ≡ capacity_of self.old }
         ensures lent { SameMemory self.old self.new }
     {
-        self.len = 0;
+        self.span.clear();
     }
 }

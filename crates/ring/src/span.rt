@@ -1,0 +1,93 @@
+// A span of places in a row, going round at the last: where the elements of a ring lie.
+// Every value of the type is a span of any places: a first place or a length past their end counts as within it.
+ghost use Rattle.std.specs.Prelude.{◌≡◌, ◌+◌, ◌-◌, ◌<◌, ◌≤◌, length};
+ghost use Rattle.ring.specs.Span.{spanned, within, SpanPuts, SpanTakes};
+ghost use Rattle.item.specs.First.{Leads};
+
+use item::Refusal;
+
+#[derive(Clone, Copy)]
+pub struct Span {
+    head: usize,
+    len: usize,
+}
+
+/// The place that lies so many after another, going round at the last of `places` places.
+fn place_after(place: usize, n: usize, places: usize) -> usize
+    requires place { place < places }
+    requires once { n ≤ places }
+    ensures plain { n < places - place → result ≡ place + n }
+    ensures round { places - place ≤ n → result ≡ n - (places - place) }
+    ensures within { result < places }
+{
+    let above = places - place;
+    if n < above { place + n } else { n - above }
+}
+
+impl Span {
+    /// A span of no places.
+    pub fn new() -> Span
+        ensures empty { result.len ≡ 0 }
+    {
+        Span { head: 0, len: 0 }
+    }
+
+    /// How many elements lie in the span.
+    pub fn len<T>(&self, places: &[T]) -> usize
+        ensures value { result ≡ length (spanned self.now places.now) }
+        ensures within { result ≤ length places.now }
+    {
+        self.len.min(places.len())
+    }
+
+    // The place of the first.
+    fn first_place(&self, places: usize) -> usize
+        ensures value { result ≡ within self.now.head places }
+        ensures fits { 0 < places → result < places }
+    {
+        if self.head < places { self.head } else { 0 }
+    }
+
+    /// The first, which stays, or none exactly when the span is empty.
+    pub fn first<T: Copy>(&self, places: &[T]) -> Option<T>
+        ensures leads { Leads (spanned self.now places.now) result }
+    {
+        if self.len(places) == 0 {
+            return None;
+        }
+        Some(places[self.first_place(places.len())])
+    }
+
+    /// One more at the end. Refused 8 exactly when the places are all in the span.
+    #[tactic(auto, using(crate::proofs::Held::one_more))]
+    pub fn put<T: Copy>(&mut self, places: &mut [T], x: T) -> Result<(), Refusal>
+        ensures puts { SpanPuts self.old places.old x result self.new places.new }
+    {
+        let len = self.len(places);
+        if len == places.len() {
+            return Err(Refusal::NoSpace);
+        }
+        self.head = self.first_place(places.len());
+        self.len = len + 1;
+        places[place_after(self.head, len, places.len())] = x;
+        Ok(())
+    }
+
+    /// The first leaves, or none exactly when the span is empty.
+    #[tactic(auto, using(crate::proofs::Held::one_less))]
+    pub fn take<T: Copy>(&mut self, places: &[T]) -> Option<T>
+        ensures takes { SpanTakes self.old places.now result self.new }
+    {
+        let x = self.first(places)?;
+        self.len = self.len(places) - 1;
+        self.head = place_after(self.first_place(places.len()), 1, places.len());
+        Some(x)
+    }
+
+    /// Gives every place back.
+    pub fn clear(&mut self)
+        ensures empty { self.new.len ≡ 0 }
+    {
+        self.len = 0;
+    }
+}
