@@ -16,10 +16,7 @@ impl<'a> Fifo for Ring<'a, Item> {
     }
 
     fn take(&mut self) -> Option<Item> {
-        match Ring::take(self) {
-            Ok(x) => Some(x),
-            Err(_) => None,
-        }
+        Ring::take(self).ok()
     }
 
     fn first(&self) -> Option<Item> {

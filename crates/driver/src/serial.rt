@@ -1,8 +1,8 @@
 // The driver that keeps its three lists in such lists of items; it loops or not.
-ghost use Rattle.std.specs.Prelude.{◌≡◌, ℕ, ◌+◌, ◌<◌, ◌≤◌, Bool, true, false, List, [], ◌∷◌, ◌++◌, length, None, MatchOption, MatchResult};
-ghost use Rattle.item.specs.Numbers.{number};
-ghost use Rattle.driver.specs.Line.{Line, band, band_room, with_waiting, with_band, with_begun, chosen_from, begun_after, returns, after_sent};
-ghost use Rattle.item.specs.First.{rest, Leads};
+ghost use Rattle.std.specs.Prelude.{◌≡◌, ◌+◌, ◌≤◌, ◌++◌, length};
+ghost use Rattle.std.specs.Borrow.{sem};
+ghost use Rattle.driver.specs.Line.{chosen_from, begun_after};
+ghost use Rattle.driver.specs.Lists.{list_of, LendsList};
 ghost use Rattle.driver.specs.Serial.{serial_line, ComesBack};
 
 use crate::Driver;
@@ -55,14 +55,6 @@ fn put_all<Q: Fifo>(list: &mut Q, items: &[Item])
     }
 }
 
-/// The first item leaves, if there is one.
-fn skip<Q: Fifo>(list: &mut Q)
-    ensures skips { Q.Fifo.items list.new ≡ rest (Q.Fifo.items list.old) }
-    ensures room { Q.Fifo.room list.new ≡ Q.Fifo.room list.old }
-{
-    let _ = list.take();
-}
-
 impl<Q: Fifo, const LOOPS: bool> Serial<Q, LOOPS> {
     /// A driver over three lists, as they are; no record is begun.
     pub fn new(waiting: Q, records: Q, echo: Q) -> Serial<Q, LOOPS>
@@ -77,23 +69,23 @@ impl<Q: Fifo, const LOOPS: bool> Serial<Q, LOOPS> {
         }
     }
 
-    /// The first item of a band.
-    fn first_of(&self, from: Band) -> Option<Item>
-        ensures leads { Leads (band (serial_line Q.Fifo.items Q.Fifo.room LOOPS self.now) from) result }
+    // The list of a band.
+    fn list(&self, band: Band) -> &Q
+        ensures value { result.now ≡ list_of self.now band }
     {
-        match from {
-            Band::Records => self.records.first(),
-            Band::Echo => self.echo.first(),
+        match band {
+            Band::Records => &self.records,
+            Band::Echo => &self.echo,
         }
     }
 
-    /// The first item of a band leaves, if there is one.
-    fn drop_first(&mut self, from: Band)
-        ensures drops { serial_line Q.Fifo.items Q.Fifo.room LOOPS self.new ≡ with_band (serial_line Q.Fifo.items Q.Fifo.room LOOPS self.old) from (rest (band (serial_line Q.Fifo.items Q.Fifo.room LOOPS self.old) from)) }
+    fn list_mut(&mut self, band: Band) -> &mut Q
+        ensures* writes_back { sem 𝓛 (LendsList Q.row LOOPS.row self.entry band result) }
+        ensures value { result.now ≡ list_of self.old band }
     {
-        match from {
-            Band::Records => skip(&mut self.records),
-            Band::Echo => skip(&mut self.echo),
+        match band {
+            Band::Records => &mut self.records,
+            Band::Echo => &mut self.echo,
         }
     }
 
@@ -136,21 +128,14 @@ impl<Q: Fifo, const LOOPS: bool> Driver for Serial<Q, LOOPS> {
     }
 
     fn offer(&mut self, to: Band, x: Item) -> Result<(), Refusal> {
-        match to {
-            Band::Records => self.records.put(x),
-            Band::Echo => self.echo.put(x),
-        }
+        self.list_mut(to).put(x)
     }
 
     fn send(&mut self) -> Result<(Band, Item), Refusal> {
         let from = choose(self.begun, &self.echo);
-        let Some(x) = self.first_of(from) else {
-            return Err(Refusal::Nothing);
-        };
-        if let Err(refusal) = self.bring_back(x) {
-            return Err(refusal);
-        }
-        self.drop_first(from);
+        let x = self.list(from).first().ok_or(Refusal::Nothing)?;
+        self.bring_back(x)?;
+        let _ = self.list_mut(from).take();
         self.begun = next_begun(self.begun, from, x);
         Ok((from, x))
     }
@@ -164,17 +149,11 @@ impl<Q: Fifo, const LOOPS: bool> Driver for Serial<Q, LOOPS> {
     }
 
     fn offered(&self, to: Band) -> usize {
-        match to {
-            Band::Records => self.records.count(),
-            Band::Echo => self.echo.count(),
-        }
+        self.list(to).count()
     }
 
     fn offered_room(&self, to: Band) -> usize {
-        match to {
-            Band::Records => self.records.capacity(),
-            Band::Echo => self.echo.capacity(),
-        }
+        self.list(to).capacity()
     }
 
     fn begun(&self) -> Option<Band> {

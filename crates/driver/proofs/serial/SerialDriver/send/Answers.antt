@@ -1,16 +1,25 @@
-use Rattle.std.proofs.Common.{refl}
-use Rattle.driver.proofs.Sending.{sent, empty, stuck}
+use Rattle.std.proofs.Common.{◌≡◌, refl, arith}
+use Rattle.std.proofs.lemmas.Result.{err_from_is_err_and}
+use Rattle.item.specs.declared.Refusal.TheVariants.{Nothing}
+use Rattle.driver.proofs.Sending.{empty, stuck}
 use Rattle.driver.proofs.serial.SerialDriver.send.Goals as goal
 
-pub returns-in_default : goal.returns-in_default
-returns-in_default g c = record { sends = (empty _ c.choose-from.result c.choose-from.ensures.value c.in_default.ensures.leads, refl) }
+pub returns-in_err-x : goal.returns-in_err-x
+returns-in_err-x g c =
+    let p = err_from_is_err_and c.from_residual.result c.from_residual.ensures.1 in
+    let none = c.in_err-x.ensures.ok_part in
+    let why : c.in_err-x.field-0.0 ≡ Nothing = let e = c.in_err-x.ensures.value in grind arith in
+    let u =
+    empty g.Q.Fifo.items g.Q.Fifo.room _ c.args.self.now _ _ _ c.choose-from.ensures.value c.list.ensures.value c.first.ensures.leads none
+    in
+    rw (p.1, p.2, why) (record { sends = (u, refl) })
 
-pub returns-in-Err : goal.returns-in-Err
-returns-in-Err g c =
-    let b = c.in-Err.ensures.comes in
-    record { sends = (stuck _ c.choose-from.result c.in-Some.x c.in-Err.refusal c.choose-from.ensures.value c.in-Some.ensures.leads b.0 b.1 b.2 b.3, b.4) }
-
-pub returns : goal.returns
-returns g c =
-    let b = c.in_default-bring_back.ensures.comes in
-    record { sends = sent _ _ _ c.choose-from.result c.in-Some.x c.next_begun-self.result c.choose-from.ensures.value c.in-Some.ensures.leads b.0 b.1 c.drop_first.ensures.drops c.next_begun-self.ensures.value }
+pub returns-in_err-bring_back : goal.returns-in_err-bring_back
+returns-in_err-bring_back g c =
+    let p = err_from_is_err_and c.from_residual-in_err-bring_back.result c.from_residual-in_err-bring_back.ensures.1 in
+    let b = c.in_err-bring_back.ensures.comes in
+    let u =
+    stuck g.Q.Fifo.items g.Q.Fifo.room _ c.args.self.now _ _ _ c.choose-from.ensures.value c.list.ensures.value c.first.ensures.leads
+    c.in_ok-x.x _ c.in_ok-x.ensures.ok_part b.0 b.1 b.2 b.3
+    in
+    rw (p.1, p.2) (record { sends = (u, b.4) })
