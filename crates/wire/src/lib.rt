@@ -18,8 +18,7 @@ pub fn arrive_some<D: Driver>(driver: &mut D, items: &[Item]) -> usize
 {
     let free = driver.waiting_room().saturating_sub(driver.waiting());
     let taken = items.len().min(free);
-    let (some, _) = items.split_at(taken);
-    match driver.arrive(some) {
+    match driver.arrive(&items[..taken]) {
         Ok(()) => taken,
         Err(_) => 0,
     }
@@ -40,21 +39,20 @@ pub fn fetch_all<D: Driver>(driver: &mut D, out: &mut Vec<Item>) -> Result<(), A
 pub fn offer_all<D: Driver>(driver: &mut D, to: Band, items: &[Item]) -> usize
     ensures offers { OffersAll (D.Driver.line driver.old) to items.now result (D.Driver.line driver.new) }
 {
-    let mut taken = 0;
-    while taken < items.len() {
-        match driver.offer(to, items[taken]) {
-            Ok(()) => {}
-            Err(_) => return taken,
+    for (taken, x) in items.iter().enumerate() {
+        if driver.offer(to, *x).is_err() {
+            return taken;
         }
-        taken += 1;
     }
-    taken
+    items.len()
 }
 
 /// Sends until a send is refused; what goes out goes behind `out`, with its band.
+#[tactic(auto, using(crate::proofs::Going::nothing_yet, crate::proofs::Going::one_more))]
 pub fn send_all<D: Driver>(driver: &mut D, out: &mut Vec<(Band, Item)>) -> Result<(), AllocError>
     ensures sends { OnOk result (SendsAll (D.Driver.line driver.old) out.old.items out.new.items (D.Driver.line driver.new)) }
 {
+    // The loop of fetch_all over another call: one for both would need a longer contract than the loop, to say that it ends.
     while let Ok(sent) = driver.send() {
         out.push(sent)?;
     }
