@@ -48,9 +48,8 @@ fn put_all<Q: Fifo>(list: &mut Q, items: &[Item])
     ensures room { Q.Fifo.room list.new ≡ Q.Fifo.room list.old }
 {
     for x in items {
-        match list.put(*x) {
-            Ok(()) => {}
-            Err(_) => unreachable(),
+        if list.put(*x).is_err() {
+            unreachable();
         }
     }
 }

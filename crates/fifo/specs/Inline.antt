@@ -1,7 +1,7 @@
 -- What a list in its own record holds, first to last: its cells are used as a ring's are.
-use Rattle.std.specs.Prelude.{ℕ, min, cond, List, length, take, nat_le}
+use Rattle.std.specs.Prelude.{ℕ, cond, List, length, take, nat_le}
 use Rattle.item.specs.declared.Item.{Item}
-use Rattle.ring.specs.Span.{held, within}
+use Rattle.ring.specs.Span.{spanned}
 use Rattle.fifo.specs.declared.inline.Inline.{Inline}
 
 -- how many places n cells make: all of them, if they are not too many
@@ -15,11 +15,5 @@ room_in q = places 4096 (length q.cells)
 abbrev pub places_in : {n : ℕ} → Inline n → List Item
 places_in q = take (room_in q) q.cells
 
-abbrev pub place_in : {n : ℕ} → Inline n → ℕ
-place_in q = within q.span.head (length (places_in q))
-
-abbrev pub count_in : {n : ℕ} → Inline n → ℕ
-count_in q = min q.span.len (length (places_in q))
-
 abbrev pub items_in : {n : ℕ} → Inline n → List Item
-items_in q = held (places_in q) (place_in q) (count_in q)
+items_in q = spanned q.span (places_in q)

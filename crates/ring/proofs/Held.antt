@@ -4,7 +4,7 @@ use Rattle.std.proofs.lemmas.Bool.Decides.{nat_tests}
 use Rattle.std.proofs.lemmas.Bool.{cases_lt}
 use lib.Seq.{take-set-lt}
 use Rattle.std.proofs.lemmas.List.{length-set, length-append, length-take, length-drop, drop-set-add, drop-set-lt, take-set-le, set-append_left, set-append_right, take_more_set, drop_more, take_more, take-append-le, drop_all, take_all}
-use Rattle.ring.specs.Span.{held, within, spanned}
+use Rattle.ring.specs.Span.{held, within, place_of, count_of, spanned}
 use Rattle.item.specs.First.{rest}
 use Rattle.ring.specs.declared.span.Span.{Span}
 
@@ -64,15 +64,15 @@ held_within xs h n l m =
     cc
 
 -- there are as many elements as are counted
-length_spanned : {X : Type 0} (s : Span) (xs : List X) → length (spanned s xs) ≡ min s.len (length xs)
+length_spanned : {X : Type 0} (s : Span) (xs : List X) → length (spanned s xs) ≡ count_of s (length xs)
 length_spanned s xs = simp (length-take, length-append, length-drop) (grind (arith, nat_tests))
 
 -- the elements, from where they are found to begin
-found : {X : Type 0} (s : Span) (xs : List X) (h n : ℕ) → h ≡ within s.head (length xs) → n ≡ length (spanned s xs) → held xs h n ≡ spanned s xs
+found : {X : Type 0} (s : Span) (xs : List X) (h n : ℕ) → h ≡ place_of s (length xs) → n ≡ length (spanned s xs) → held xs h n ≡ spanned s xs
 found s xs h n p q = let e = length_spanned s xs in cc
 
 -- one more at the end
-pub one_more : {X : Type 0} (s : Span) (xs : List X) (h n at : ℕ) (x : X) → h ≡ within s.head (length xs) → n ≡ length (spanned s xs) → n < length xs →
+pub one_more : {X : Type 0} (s : Span) (xs : List X) (h n at : ℕ) (x : X) → h ≡ place_of s (length xs) → n ≡ length (spanned s xs) → n < length xs →
     (n < length xs - h → at ≡ h + n) → (length xs - h ≤ n → at ≡ n - (length xs - h)) →
     spanned record { head = h; len = n + 1 } (set xs at x) ≡ spanned s xs ++ x ∷ []
 one_more {X} s xs h n at x p q m f t =
@@ -88,7 +88,7 @@ one_more {X} s xs h n at x p q m f t =
     held_within (set xs at x) h (n + 1) (omega arith) (omega arith) ∙ put ∙ ap (λ (ys : List X). ys ++ x ∷ []) (found s xs h n p q)
 
 -- the first leaves
-pub one_less : {X : Type 0} (s : Span) (xs : List X) (h n k : ℕ) (x : X) → h ≡ within s.head (length xs) → n ≡ length (spanned s xs) → spanned s xs ≡ x ∷ rest (spanned s xs) →
+pub one_less : {X : Type 0} (s : Span) (xs : List X) (h n k : ℕ) (x : X) → h ≡ place_of s (length xs) → n ≡ length (spanned s xs) → spanned s xs ≡ x ∷ rest (spanned s xs) →
     (1 < length xs - h → k ≡ h + 1) → (length xs - h ≤ 1 → k ≡ 1 - (length xs - h)) →
     spanned s xs ≡ x ∷ spanned record { head = k; len = n - 1 } xs
 one_less {X} s xs h n k x p q first f t =

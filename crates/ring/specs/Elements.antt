@@ -3,24 +3,18 @@ use Rattle.std.specs.Prelude.{◌≡◌, ℕ, ◌<◌, ◌≤◌, min, List, [],
 use Rattle.item.specs.declared.Refusal.{Refusal}
 use Rattle.item.specs.Numbers.{number}
 use Rattle.ring.specs.declared.Ring.{Ring}
-use Rattle.ring.specs.Span.{held, within}
+use Rattle.ring.specs.Span.{spanned}
 
--- the cells that are places: all the memory, once laid out
-abbrev pub places_of : {X : Type 0} → Ring X → List X
-places_of r = take r.places r.cells.now
-
--- how many places there are
+-- how many places there are: all the memory, once laid out
 abbrev pub capacity_of : {X : Type 0} → Ring X → ℕ
-capacity_of r = length (places_of r)
+capacity_of r = min r.places (length r.cells.now)
 
-abbrev pub place_of : {X : Type 0} → Ring X → ℕ
-place_of r = within r.span.head (capacity_of r)
-
-abbrev pub count_of : {X : Type 0} → Ring X → ℕ
-count_of r = min r.span.len (capacity_of r)
+-- the cells that are places
+abbrev pub places_of : {X : Type 0} → Ring X → List X
+places_of r = take (capacity_of r) r.cells.now
 
 abbrev pub elements : {X : Type 0} → Ring X → List X
-elements r = held (places_of r) (place_of r) (count_of r)
+elements r = spanned r.span (places_of r)
 
 -- as many places as before, in the memory that was handed over
 pub record SameMemory {X : Type 0} (a b : Ring X) : Type 0 where

@@ -12,9 +12,16 @@ held xs h n = take n (drop h xs ++ take h xs)
 abbrev pub within : ℕ → ℕ → ℕ
 within h c = cond (nat_lt h c) h 0
 
+-- where the elements begin among c places, and how many they are
+abbrev pub place_of : Span → ℕ → ℕ
+place_of s c = within s.head c
+
+abbrev pub count_of : Span → ℕ → ℕ
+count_of s c = min s.len c
+
 -- the elements that lie in a span of the places xs
 abbrev pub spanned : {X : Type 0} → Span → List X → List X
-spanned s xs = held xs (within s.head (length xs)) (min s.len (length xs))
+spanned s xs = held xs (place_of s (length xs)) (count_of s (length xs))
 
 -- one more at the end; refused 8 exactly when every place is taken
 abbrev pub SpanPuts : {X : Type 0} → Span → List X → X → Result (Unit {0}) Refusal → Span → List X → Type 0

@@ -1,7 +1,7 @@
 // A span of places in a row, going round at the last: where the elements of a ring lie.
 // Every value of the type is a span of any places: a first place or a length past their end counts as within it.
 ghost use Rattle.std.specs.Prelude.{◌≡◌, ◌+◌, ◌-◌, ◌<◌, ◌≤◌, length};
-ghost use Rattle.ring.specs.Span.{spanned, within, SpanPuts, SpanTakes};
+ghost use Rattle.ring.specs.Span.{spanned, place_of, SpanPuts, SpanTakes};
 ghost use Rattle.item.specs.First.{Leads};
 
 use item::Refusal;
@@ -42,7 +42,7 @@ impl Span {
 
     // The place of the first.
     fn first_place(&self, places: usize) -> usize
-        ensures value { result ≡ within self.now.head places }
+        ensures value { result ≡ place_of self.now places }
         ensures fits { 0 < places → result < places }
     {
         if self.head < places { self.head } else { 0 }
