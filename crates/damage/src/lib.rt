@@ -2,7 +2,7 @@
 // Promises: just the damage that is named, and no other.
 #![tactic(auto)]
 
-ghost use Rattle.std.specs.Prelude.{◌≡◌, ◌<◌, ◌≤◌, min, List, ◌++◌, length, take, IfOk, OnOk};
+ghost use Rattle.std.specs.Prelude.{◌≡◌, ◌<◌, ◌≤◌, min, ◌++◌, length, take, IfOk};
 ghost use Rattle.damage.specs.Damage.{flip, flipped_at};
 
 use item::Item;
@@ -18,31 +18,16 @@ fn flip_bit(x: Item) -> Item
     }
 }
 
-/// Some items behind others.
-fn push_all(out: &mut Vec<Item>, items: &[Item]) -> Result<(), AllocError>
-    ensures gives { OnOk result (out.new.items ≡ out.old.items ++ items.now) }
-{
-    for x in items {
-        out.push(*x)?;
-    }
-    Ok(())
-}
-
 /// A frame in which the lowest bit of the byte at a place came over wrong; a frame with no such place as it is.
+#[tactic(auto, using(crate::proofs::Flipped::set_flipped))]
 pub fn bit_wrong(heap: Global, frame: &[Item], place: usize) -> Result<Vec<Item>, AllocError>
     ensures flips { IfOk result (λ v. place < length frame.now → v.items ≡ flipped_at place frame.now) }
     ensures same { IfOk result (λ v. length frame.now ≤ place → v.items ≡ frame.now) }
 {
-    let mut damaged = Vec::new(heap);
-    if place >= frame.len() {
-        push_all(&mut damaged, frame)?;
-        return Ok(damaged);
+    let mut damaged = Vec::from_slice(heap, frame)?;
+    if let Some(x) = damaged.get_mut(place) {
+        *x = flip_bit(*x);
     }
-    let (before, _) = frame.split_at(place);
-    let (_, behind) = frame.split_at(place + 1);
-    push_all(&mut damaged, before)?;
-    damaged.push(flip_bit(frame[place]))?;
-    push_all(&mut damaged, behind)?;
     Ok(damaged)
 }
 
@@ -54,9 +39,8 @@ pub fn cut_and_sent_again(
 ) -> Result<Vec<Item>, AllocError>
     ensures value { IfOk result (λ v. v.items ≡ take (min place (length frame.now)) frame.now ++ frame.now) }
 {
-    let mut damaged = Vec::new(heap);
     let kept = place.min(frame.len());
-    push_all(&mut damaged, &frame[0..kept])?;
-    push_all(&mut damaged, frame)?;
+    let mut damaged = Vec::from_slice(heap, &frame[..kept])?;
+    damaged.extend_from_slice(frame)?;
     Ok(damaged)
 }
