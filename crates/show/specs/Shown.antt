@@ -1,5 +1,7 @@
 -- Items as text, as the bytes of that text.
 use Rattle.std.specs.Prelude.{ℕ, cond, ◌&&◌, List, [], ◌∷◌, ◌++◌, codes, decimal, ◌==◌, nat_le}
+use Rattle.std.specs.List.{flat_map}
+use Rattle.show.specs.declared.Spelled.{Spelled}
 use Rattle.item.specs.declared.Item.{Item}
 use Rattle.item.specs.declared.Item.TheVariants.{Byte, End, Note}
 
@@ -33,5 +35,8 @@ number_text (Note k) = []
 
 -- one item after the other
 abbrev pub spelled : (Item → List ℕ) → List Item → List ℕ
-spelled shows [] = []
-spelled shows (x ∷ xs) = shows x ++ spelled shows xs
+spelled shows xs = flat_map shows xs
+
+-- the items that are spelled
+abbrev pub items_of : {S : Type 0} → Spelled S → List Item
+items_of s = s.items.now

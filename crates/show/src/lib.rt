@@ -2,12 +2,14 @@
 // Promises: the text is just what specs/Shown.antt says of each item, in order.
 #![tactic(auto)]
 
-ghost use Rattle.std.specs.Prelude.{◌≡◌, ℕ, List, IfOk, string_bytes};
+ghost use Rattle.std.specs.Prelude.{◌≡◌, ℕ, List, Some, IfOk, string_bytes};
 ghost use Rattle.item.specs.declared.Item.{Item};
-ghost use Rattle.show.specs.Shown.{byte_text, meaning_of, item_text, screen_text, number_text, spelled};
+ghost use Rattle.show.specs.Shown.{byte_text, meaning_of, item_text, screen_text, number_text, spelled, items_of};
 
 use item::Item;
 use std::alloc::{AllocError, Global};
+use std::fmt::{self, Display, Formatter};
+use std::marker::PhantomData;
 
 /// What a NOTE tells.
 fn meaning(note: u8) -> &'static str
@@ -22,81 +24,138 @@ fn meaning(note: u8) -> &'static str
 }
 
 /// A byte as itself, or by its number where it cannot be printed.
-fn show_byte(heap: Global, b: u8) -> Result<String, AllocError>
-    ensures value { IfOk result (λ s. string_bytes s ≡ byte_text b) }
-{
-    match b {
-        32..=126 => {
-            let mut s = String::new(heap);
-            s.push(b as char)?;
-            Ok(s)
+#[derive(Clone, Copy)]
+struct Printable(u8);
+
+impl Display for Printable {
+    ghost output = { λ s. Some (byte_text s.0) };
+
+    fn fmt<W: fmt::Write>(&self, f: &mut Formatter<W>) -> fmt::Result {
+        let b = self.0;
+        match b {
+            32..=126 => write!(f, "{}", b as char),
+            _ => write!(f, "<{b}>"),
         }
-        _ => format!(in heap; "<{b}>"),
     }
 }
 
 /// A way to show items.
-pub trait Style {
+pub trait Style: Display + Drop + Sized {
     ghost shows: { Item → List ℕ };
 
-    fn show(heap: Global, x: Item) -> Result<String, AllocError>
-        ensures value { IfOk result (λ s. string_bytes s ≡ shows x) };
+    /// The item, to be shown in this way.
+    fn of(item: Item) -> Self
+        ensures shown { Self.output result ≡ Some (shows item) };
+
+    fn show(heap: Global, item: Item) -> Result<String, AllocError>
+        ensures value { IfOk result (λ s. string_bytes s ≡ shows item) }
+    {
+        Self::of(item).to_string(heap)
+    }
 }
 
 /// Everything shows.
-pub struct AsText;
+#[derive(Clone, Copy)]
+pub struct AsText(pub Item);
+
+impl Display for AsText {
+    ghost output = { λ s. Some (item_text s.0) };
+
+    fn fmt<W: fmt::Write>(&self, f: &mut Formatter<W>) -> fmt::Result {
+        match self.0 {
+            Item::Byte(b) => write!(f, "{}", Printable(b)),
+            Item::End => write!(f, "<END>"),
+            Item::Note(k) => write!(f, "<NOTE {k}: {}>", meaning(k)),
+        }
+    }
+}
 
 impl Style for AsText {
     ghost shows = { item_text };
 
-    fn show(heap: Global, x: Item) -> Result<String, AllocError> {
-        match x {
-            Item::Byte(b) => show_byte(heap, b),
-            Item::End => String::from_str(heap, "<END>"),
-            Item::Note(k) => {
-                let told = meaning(k);
-                format!(in heap; "<NOTE {k}: {told}>")
-            }
-        }
+    fn of(item: Item) -> Self {
+        AsText(item)
     }
 }
 
 /// The ends of records do not show.
-pub struct OnScreen;
+#[derive(Clone, Copy)]
+pub struct OnScreen(pub Item);
+
+impl Display for OnScreen {
+    ghost output = { λ s. Some (screen_text s.0) };
+
+    fn fmt<W: fmt::Write>(&self, f: &mut Formatter<W>) -> fmt::Result {
+        match self.0 {
+            Item::End => Ok(()),
+            item => write!(f, "{}", AsText(item)),
+        }
+    }
+}
 
 impl Style for OnScreen {
     ghost shows = { screen_text };
 
-    fn show(heap: Global, x: Item) -> Result<String, AllocError> {
-        match x {
-            Item::End => Ok(String::new(heap)),
-            _ => <AsText as Style>::show(heap, x),
-        }
+    fn of(item: Item) -> Self {
+        OnScreen(item)
     }
 }
 
 /// Bytes show as numbers, and nothing else shows.
-pub struct AsNumbers;
+#[derive(Clone, Copy)]
+pub struct AsNumbers(pub Item);
 
-impl Style for AsNumbers {
-    ghost shows = { number_text };
+impl Display for AsNumbers {
+    ghost output = { λ s. Some (number_text s.0) };
 
-    fn show(heap: Global, x: Item) -> Result<String, AllocError> {
-        match x {
-            Item::Byte(b) => format!(in heap; " {b}"),
-            _ => Ok(String::new(heap)),
+    fn fmt<W: fmt::Write>(&self, f: &mut Formatter<W>) -> fmt::Result {
+        match self.0 {
+            Item::Byte(b) => write!(f, " {b}"),
+            _ => Ok(()),
         }
     }
 }
 
-/// Some items, one after the other.
+impl Style for AsNumbers {
+    ghost shows = { number_text };
+
+    fn of(item: Item) -> Self {
+        AsNumbers(item)
+    }
+}
+
+/// Some items in a style, one after the other.
+#[derive(Drop)]
+pub struct Spelled<'a, S> {
+    items: &'a [Item],
+    style: PhantomData<S>,
+}
+
+impl<'a, S: Style> Spelled<'a, S> {
+    pub fn new(items: &'a [Item]) -> Self
+        ensures items { items_of result ≡ items.now }
+    {
+        Spelled {
+            items,
+            style: PhantomData,
+        }
+    }
+}
+
+impl<S: Style> Display for Spelled<'_, S> {
+    ghost output = { λ s. Some (spelled S.Style.shows (items_of s)) };
+
+    fn fmt<W: fmt::Write>(&self, f: &mut Formatter<W>) -> fmt::Result {
+        for item in self.items {
+            write!(f, "{}", S::of(*item))?;
+        }
+        Ok(())
+    }
+}
+
+/// The text of some items.
 pub fn spell<S: Style>(heap: Global, items: &[Item]) -> Result<String, AllocError>
     ensures value { IfOk result (λ s. string_bytes s ≡ spelled S.Style.shows items.now) }
 {
-    let mut text = String::new(heap);
-    for x in items {
-        let t = S::show(heap, *x)?;
-        text.push_str(t.as_str())?;
-    }
-    Ok(text)
+    Spelled::<S>::new(items).to_string(heap)
 }
