@@ -5,72 +5,37 @@
 // UART has room for, answers it, and prints.
 #![tactic(auto)]
 
-mod report;
-mod typing;
+mod order;
+mod terminal;
 
-use bench::desk::Desk;
-use driver::Driver;
 use drivers::{looping, uart};
-use input::first_line;
+use input::{Lines, line_items};
 use item::{Band, Item};
-use report::print_order;
-use std::io::Read;
-use typing::type_line;
+use report::{TITLE, typed_bytes};
+use terminal::Terminal;
 use wire::{fetch_all, offer_all, send_all};
 
-const SAMPLE: &[u8] = b"LOT 4711: \\BUTTER, 25 KG \\(UNSALTED\\)\r";
-
-/// Shows that a record begun is not interrupted: the echo waits for its END.
-fn print_begun<D: Driver>(rt: &HostRuntime, line: &mut D) -> anyhow::Result<()> {
-    let heap = rt.alloc();
-    let record = [
-        Item::Byte(b'B'),
-        Item::Byte(b'Y'),
-        Item::Byte(b'E'),
-        Item::End,
-    ];
-    let bell = [Item::Byte(7), Item::End];
-    let _ = offer_all(line, Band::Records, &record);
-    let mut sent = Vec::new(heap);
-    if let Ok(first) = line.send() {
-        sent.push(first)?;
-    }
-    let _ = offer_all(line, Band::Echo, &bell);
-    send_all(line, &mut sent)?;
-    println!(rt; "A bell is offered when one byte of a record is out:")?;
-    print_order(rt, sent.as_slice())
-}
-
 /// Sends a record over a loop plug, and prints what comes back.
-fn print_loop(rt: &HostRuntime) -> anyhow::Result<()> {
+fn print_loop(rt: &(impl Print + AllocGlobal)) -> anyhow::Result<()> {
     let heap = rt.alloc();
     let mut plug = looping::new();
-    let record = [
-        Item::Byte(b'T'),
-        Item::Byte(b'E'),
-        Item::Byte(b'S'),
-        Item::Byte(b'T'),
-        Item::End,
-    ];
-    let _ = offer_all(&mut plug, Band::Records, &record);
+    let record = line_items(heap, b"TEST")?;
+    let _ = offer_all(&mut plug, Band::Records, record.as_slice());
     let mut sent = Vec::new(heap);
     send_all(&mut plug, &mut sent)?;
     let mut back = Vec::new(heap);
     fetch_all(&mut plug, &mut back)?;
-    let (out, came) = (sent.len(), back.len());
-    println!(rt; "With a loop plug, of {out} items sent {came} come back")?;
+    println!(rt;
+        "With a loop plug, of {} items sent {} come back",
+        sent.len(),
+        back.len()
+    )?;
     Ok(())
 }
 
-fn run(rt: &HostRuntime) -> anyhow::Result<()> {
-    let mut bytes = Vec::new(rt.alloc());
-    rt.stdin().read_to_end(&mut bytes)?;
-    let mut rest = if bytes.len() == 0 {
-        SAMPLE
-    } else {
-        bytes.as_slice()
-    };
-    println!(rt; "A bench terminal. What cannot be printed is shown as <10>, by its number.")?;
+fn run<R: Input + Print + AllocGlobal>(rt: &R) -> anyhow::Result<()> {
+    let typed = typed_bytes(rt)?;
+    println!(rt; "{TITLE}")?;
     let (mut waiting, mut records, mut echo) = (
         [Item::End; 24],
         [Item::End; 256],
@@ -78,21 +43,16 @@ fn run(rt: &HostRuntime) -> anyhow::Result<()> {
     );
     let mut line = uart::over(&mut waiting, &mut records, &mut echo);
     if let Err(refusal) = uart::lay_out(&mut line) {
-        let number = refusal.number();
-        println!(rt; "The UART's lay out is refused {number}")?;
+        println!(rt; "The UART's lay out is refused {}", refusal.number())?;
         return Ok(());
     }
-    let mut desk = Desk::new();
-    let mut number: u64 = 0;
-    while rest.len() > 0 {
-        let (typed, more) = rest.split_at(first_line(rest));
-        number = number.wrapping_add(1);
-        type_line(rt, &mut line, &mut desk, typed, number)?;
-        rest = more;
+    let mut terminal = Terminal::new(rt, line);
+    for (number, line) in (1u64..).zip(Lines::new(typed.as_slice())) {
+        terminal.type_line(number, line)?;
     }
-    print_begun(rt, &mut line)?;
+    terminal.print_begun()?;
     print_loop(rt)?;
-    println!(rt; "Lines typed: {number}")?;
+    println!(rt; "Lines typed: {}", Lines::new(typed.as_slice()).count())?;
     Ok(())
 }
 

@@ -3,49 +3,39 @@
 // it, also where the frame is damaged on the way. The work is done, and proved, in the crates below; this one prints.
 #![tactic(auto)]
 
-mod report;
-
 use bench::desk::Desk;
-use input::{first_line, line_items};
-use report::Report;
-use std::io::Read;
-
-const SAMPLE: &[u8] = b"LOT 4711: \\BUTTER, 25 KG \\(UNSALTED\\)\r";
+use input::{Lines, line_items};
+use report::{TITLE, print_reader, typed_bytes};
+use show::{OnScreen, Spelled};
 
 /// Types one line, and prints what comes of it.
-fn type_line(rt: &HostRuntime, desk: &mut Desk, line: &[u8], number: u64) -> anyhow::Result<()> {
+fn type_line(
+    rt: &(impl Print + AllocGlobal),
+    desk: &mut Desk,
+    number: u64,
+    line: &[u8],
+) -> anyhow::Result<()> {
     let heap = rt.alloc();
     let items = line_items(heap, line)?;
-    let mut report = Report::new(heap);
-    desk.typed(
-        heap,
-        items.as_slice(),
-        &mut report.reader,
-        &mut report.screen,
+    let mut reader = Vec::new(heap);
+    let mut screen = Vec::new(heap);
+    desk.typed(heap, items.as_slice(), &mut reader, &mut screen)?;
+    println!(rt; "Line {number}, of {} typed bytes:", line.len())?;
+    println!(rt;
+        "  the screen shows  {}",
+        Spelled::<OnScreen>::new(screen.as_slice())
     )?;
-    let count = line.len();
-    println!(rt; "Line {number}, of {count} typed bytes:")?;
-    report.print(rt)
+    print_reader(rt, reader.as_slice())
 }
 
-fn run(rt: &HostRuntime) -> anyhow::Result<()> {
-    let mut bytes = Vec::new(rt.alloc());
-    rt.stdin().read_to_end(&mut bytes)?;
-    let mut rest = if bytes.len() == 0 {
-        SAMPLE
-    } else {
-        bytes.as_slice()
-    };
-    println!(rt; "A bench terminal. What cannot be printed is shown as <10>, by its number.")?;
+fn run(rt: &(impl Input + Print + AllocGlobal)) -> anyhow::Result<()> {
+    let typed = typed_bytes(rt)?;
+    println!(rt; "{TITLE}")?;
     let mut desk = Desk::new();
-    let mut number: u64 = 0;
-    while rest.len() > 0 {
-        let (line, more) = rest.split_at(first_line(rest));
-        number = number.wrapping_add(1);
-        type_line(rt, &mut desk, line, number)?;
-        rest = more;
+    for (number, line) in (1u64..).zip(Lines::new(typed.as_slice())) {
+        type_line(rt, &mut desk, number, line)?;
     }
-    println!(rt; "Lines typed: {number}")?;
+    println!(rt; "Lines typed: {}", Lines::new(typed.as_slice()).count())?;
     Ok(())
 }
 

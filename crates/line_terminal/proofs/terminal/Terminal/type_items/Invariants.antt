@@ -1,5 +1,5 @@
 use Rattle.std.proofs.Common.{length}
-use Rattle.line_terminal.proofs.typing.type_line.Given as goal
+use Rattle.line_terminal.proofs.terminal.Terminal.type_items.Given as goal
 
 abbrev pub decreases-loop-rest : goal.decreases-loop-rest
 decreases-loop-rest g l = length l.rest
