@@ -1,87 +1,65 @@
 // A case, and how its line is read.
+use crate::failure::Failure;
 use item::Item;
-use std::alloc::{AllocError, Global};
+use std::alloc::Global;
 
 #[derive(Drop)]
-pub struct Case {
-    pub lane: String,
+pub struct Case<'a> {
+    pub lane: &'a str,
     pub given: Vec<Item>,
     pub expected: Vec<Item>,
 }
 
-/// A byte, END or NOTEk.
-fn parse_item(word: &str) -> Option<Item> {
-    if word == "END" {
-        return Some(Item::End);
-    }
-    if let Some(k) = word.strip_prefix("NOTE") {
-        return match k.parse::<u8>() {
-            Ok(k) => Some(Item::Note(k)),
-            Err(_) => None,
-        };
-    }
-    match word.parse::<u8>() {
-        Ok(b) => Some(Item::Byte(b)),
-        Err(_) => None,
+impl<'a> Case<'a> {
+    /// The case that stands on a line.
+    pub fn parse(heap: Global, line: &'a str) -> Result<Self, Failure> {
+        let (lane, lists) = line.split_once(':').ok_or(Failure::NotACase)?;
+        let (given, expected) = lists.split_once('=').ok_or(Failure::NotACase)?;
+        let given = parse_items(heap, given)?;
+        let expected = parse_items(heap, expected)?;
+        Ok(Case {
+            lane,
+            given,
+            expected,
+        })
     }
 }
 
-/// How often the items of a word stand there, and the items.
-fn parse_times(word: &str) -> Option<(&str, u16)> {
-    match word.split_once('*') {
-        None => Some((word, 1)),
-        Some((group, times)) => match times.parse::<u16>() {
-            Ok(n) => Some((group, n)),
-            Err(_) => None,
-        },
-    }
-}
-
-/// The items of a word go behind others. False where one is no item.
-fn push_group(group: &str, items: &mut Vec<Item>) -> Result<bool, AllocError> {
-    for word in group.split('+') {
-        match parse_item(word) {
-            Some(item) => items.push(item)?,
-            None => return Ok(false),
-        }
-    }
-    Ok(true)
-}
-
-/// The items of a list of words, or none where one is no item.
-fn parse_items(heap: Global, words: &str) -> Result<Option<Vec<Item>>, AllocError> {
+/// The items of a list of words.
+fn parse_items(heap: Global, words: &str) -> Result<Vec<Item>, Failure> {
     let mut items = Vec::new(heap);
     for word in words.split_whitespace() {
-        let Some((group, times)) = parse_times(word) else {
-            return Ok(None);
-        };
+        let (group, times) = parse_times(word)?;
         for _ in 0..times {
-            if !push_group(group, &mut items)? {
-                return Ok(None);
-            }
+            push_group(group, &mut items)?;
         }
     }
-    Ok(Some(items))
+    Ok(items)
 }
 
-/// A line's case, or none where it is not one.
-pub fn parse_case(heap: Global, line: &str) -> Result<Option<Case>, AllocError> {
-    let Some((lane, lists)) = line.split_once(':') else {
-        return Ok(None);
-    };
-    let Some((given, expected)) = lists.split_once('=') else {
-        return Ok(None);
-    };
-    let lane = String::from_str(heap, lane)?;
-    let Some(given) = parse_items(heap, given)? else {
-        return Ok(None);
-    };
-    let Some(expected) = parse_items(heap, expected)? else {
-        return Ok(None);
-    };
-    Ok(Some(Case {
-        lane,
-        given,
-        expected,
-    }))
+/// The items of a word, and how often they stand there.
+fn parse_times(word: &str) -> Result<(&str, u16), Failure> {
+    match word.split_once('*') {
+        Some((group, times)) => Ok((group, times.parse()?)),
+        None => Ok((word, 1)),
+    }
+}
+
+/// The items of a group go behind others.
+fn push_group(group: &str, items: &mut Vec<Item>) -> Result<(), Failure> {
+    for word in group.split('+') {
+        items.push(parse_item(word)?)?;
+    }
+    Ok(())
+}
+
+/// A byte, END or NOTEk.
+fn parse_item(word: &str) -> Result<Item, Failure> {
+    if word == "END" {
+        return Ok(Item::End);
+    }
+    match word.strip_prefix("NOTE") {
+        Some(k) => Ok(Item::Note(k.parse()?)),
+        None => Ok(Item::Byte(word.parse()?)),
+    }
 }

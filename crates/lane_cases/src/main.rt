@@ -5,45 +5,35 @@
 #![tactic(auto)]
 
 mod case;
+mod failure;
+mod steps;
 mod through;
 
-use case::{Case, parse_case};
-use through::{Outcome, run_case};
+use case::Case;
+use failure::Failure;
+use std::alloc::Global;
+use through::run_case;
 
-/// Runs one case; prints it unless it comes out as it must. Tells whether it does.
-fn check_case(rt: &HostRuntime, number: u64, case: &Case) -> anyhow::Result<bool> {
-    let told = match run_case(rt.alloc(), case)? {
-        Outcome::AsExpected => return Ok(true),
-        Outcome::NoSuchLane => "there is no such lane",
-        Outcome::Other => "something else came out",
-        Outcome::OutOfOrder => "a step, a first or a take did not do what it must",
-    };
-    println!(rt; "line {number}: {told}")?;
-    Ok(false)
+/// Runs the case on a line of the table.
+fn check_line(heap: Global, line: &str) -> Result<(), Failure> {
+    run_case(heap, &Case::parse(heap, line)?)
 }
 
-fn run(rt: &HostRuntime) -> anyhow::Result<()> {
+fn run(rt: &(impl Input + Print + AllocGlobal)) -> anyhow::Result<()> {
     let heap = rt.alloc();
-    let mut number: u64 = 0;
-    let mut right: u64 = 0;
-    let mut wrong: u64 = 0;
-    for line in rt.lines(heap) {
+    let (mut right, mut wrong) = (0u64, 0u64);
+    for (number, line) in (1u64..).zip(rt.lines(heap)) {
         let line = line?;
-        number = number.wrapping_add(1);
         if line.is_empty() || line.as_str().starts_with('#') {
             continue;
         }
-        let good = match parse_case(heap, line.as_str())? {
-            None => {
-                println!(rt; "line {number}: not a case")?;
-                false
+        match check_line(heap, line.as_str()) {
+            Ok(()) => right = right.saturating_add(1),
+            Err(Failure::Memory(error)) => return Err(error.into()),
+            Err(failure) => {
+                println!(rt; "line {number}: {failure}")?;
+                wrong = wrong.saturating_add(1);
             }
-            Some(case) => check_case(rt, number, &case)?,
-        };
-        if good {
-            right = right.wrapping_add(1);
-        } else {
-            wrong = wrong.wrapping_add(1);
         }
     }
     println!(rt; "{right} cases come out as they must, {wrong} do not")?;
