@@ -25,10 +25,8 @@ pub fn first_line(bytes: &[u8]) -> usize
     ensures before { (k : ℕ) → k + 1 < result → ends (slice_index bytes.now k) ≡ false }
     ensures last { result < length bytes.now → ends (slice_index bytes.now (result - 1)) ≡ true }
 {
-    match bytes.iter().position(|b| ends_line(*b)) {
-        Some(i) => i + 1,
-        None => bytes.len(),
-    }
+    let end = bytes.iter().position(|b| ends_line(*b));
+    end.map_or(bytes.len(), |i| i + 1)
 }
 
 /// The lines of some bytes, each with the byte that ends it.
