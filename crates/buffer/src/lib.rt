@@ -3,7 +3,7 @@
 // Promises: each call does to that list what its name says, and a refused one changes nothing.
 #![tactic(auto)]
 
-ghost use Rattle.std.specs.Prelude.{◌≡◌, ℕ, ◌-◌, ◌≤◌, List, [], length, take};
+ghost use Rattle.std.specs.Prelude.{◌≡◌, ℕ, ◌-◌, ◌<◌, ◌≤◌, ◌↔◌, List, [], length, take, IsOk};
 ghost use Rattle.buffer.specs.Pushed.{Pushes};
 
 use arrayvec::ArrayVec;
@@ -45,6 +45,7 @@ impl<const N: usize> Buffer<N> {
 
     /// Adds a byte behind the others. Refused 8 exactly where N are held.
     pub fn push(&mut self, b: u8) -> Result<(), Refusal>
+        ensures room { IsOk result ↔ (length self.old < N) }
         ensures pushes { Pushes N self.old b result self.new }
     {
         self.bytes.try_push(b).map_err(|_| Refusal::NoSpace)

@@ -54,8 +54,8 @@ fn echo_of(b: u8) -> Few
 
 /// Drops the last byte held, and tells the echo.
 fn erase(line: &mut Spool<LONGEST>) -> Few
-    requires { line.old.ready ≡ [] }
-    ensures erases { both line.new.held line.new.ready (items result) ≡ erased line.old.held }
+    ensures erases { both line.new.held [] (items result) ≡ erased line.old.held }
+    ensures none_ready { line.old.ready ≡ [] → line.new.ready ≡ [] }
 {
     if line.held().is_empty() {
         return Few::Zero;
@@ -71,8 +71,8 @@ fn erase(line: &mut Spool<LONGEST>) -> Few
 
 /// Holds one more byte, if there is room, and tells the echo.
 fn hold(line: &mut Spool<LONGEST>, b: u8) -> Few
-    requires { line.old.ready ≡ [] }
-    ensures adds { both line.new.held line.new.ready (items result) ≡ added line.old.held b }
+    ensures adds { both line.new.held [] (items result) ≡ added line.old.held b }
+    ensures none_ready { line.old.ready ≡ [] → line.new.ready ≡ [] }
 {
     match line.push(b) {
         Ok(()) => echo_of(b),

@@ -56,7 +56,6 @@ fn check(s: &[u8]) -> u8
 impl FrameUp {
     // Begins an empty body.
     fn begin(&mut self)
-        requires { self.old.body.ready ≡ [] }
         ensures begins { up_held self.new ≡ holding (body []) [] }
     {
         self.at = At::Inside;
@@ -65,7 +64,6 @@ impl FrameUp {
 
     // Drops the body, and tells why.
     fn give_up(&mut self, why: Few)
-        requires { self.old.body.ready ≡ [] }
         ensures tells { up_held self.new ≡ holding hunting (items why) }
     {
         self.at = At::Hunting;
@@ -74,7 +72,6 @@ impl FrameUp {
 
     // STOP ends the body.
     fn end(&mut self)
-        requires { self.old.body.ready ≡ [] }
         ensures gives { up_held self.new ≡ holding hunting (ending self.old.body.held) }
     {
         let body = self.body.held();
@@ -88,7 +85,6 @@ impl FrameUp {
 
     // Adds a byte to the body.
     fn join(&mut self, b: u8)
-        requires { self.old.body.ready ≡ [] }
         ensures joins { up_held self.new ≡ joined self.old.body.held b }
     {
         match self.body.push(b) {

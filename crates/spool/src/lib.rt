@@ -3,10 +3,11 @@
 // Promises: each call does to the two lists what its name says, and a refused one changes nothing.
 #![tactic(auto)]
 
-ghost use Rattle.std.specs.Prelude.{◌≡◌, ◌+◌, ◌-◌, ◌<◌, [], ◌∷◌, ◌++◌, map, length, take, drop, Some, MatchOption};
+ghost use Rattle.std.specs.Prelude.{◌≡◌, ◌+◌, ◌-◌, ◌<◌, [], ◌∷◌, ◌++◌, map, length, take, drop, None, Some, OnOk, OnErr, MatchOption};
 ghost use Rattle.item.specs.declared.Item.TheVariants.{Byte};
 ghost use Rattle.item.specs.First.{Leads};
 ghost use Rattle.buffer.specs.Pushed.{Pushes};
+ghost use Rattle.lane.specs.declared.few.Few.TheVariants.{Zero};
 ghost use Rattle.lane.specs.Few.{items};
 ghost use Rattle.spool.specs.Spooled.{Spooled, spooled, holding, left};
 
@@ -38,6 +39,17 @@ fn next_byte(bytes: &[u8], given: Option<usize>) -> Option<(usize, u8)>
     Some((at, *b))
 }
 
+/// Bytes that are given out are dropped, and bytes that are held stay.
+fn drop_given<const N: usize>(bytes: &mut Buffer<N>, given: &mut Option<usize>)
+    ensures held { bytes.new ≡ (spooled bytes.old given.old Zero).held }
+    ensures none { given.new ≡ None }
+{
+    if given.take().is_some() {
+        bytes.clear();
+    }
+}
+
+// A call that changes a spool drops what was ready: a lane asks `first` before it makes one.
 impl<const N: usize> Spool<N> {
     pub fn new() -> Spool<N>
         ensures empty { result ≡ holding [] [] }
@@ -60,57 +72,49 @@ impl<const N: usize> Spool<N> {
     }
 
     /// Holds one more byte. Refused 8 exactly where N are held.
-    #[tactic(auto, using(crate::proofs::Ready::none_ready))]
     pub fn push(&mut self, b: u8) -> Result<(), Refusal>
-        requires { self.old.ready ≡ [] }
         ensures pushes { Pushes N self.old.held b result self.new.held }
-        ensures ready { self.new.ready ≡ [] }
+        ensures none_ready { OnOk result (self.new.ready ≡ []) }
+        ensures same { OnErr result (self.new ≡ self.old) }
     {
-        if self.given.take().is_some() {
-            self.bytes.clear();
+        if self.held().len() == N {
+            return Err(Refusal::NoSpace);
         }
+        drop_given(&mut self.bytes, &mut self.given);
+        self.few = Few::Zero;
         self.bytes.push(b)
     }
 
     /// Drops the last byte held, if there is one.
     pub fn pop(&mut self)
-        requires { self.old.ready ≡ [] }
         ensures pops { self.new ≡ holding (take (length self.old.held - 1) self.old.held) [] }
     {
-        if self.given.take().is_some() {
-            self.bytes.clear();
-        }
+        drop_given(&mut self.bytes, &mut self.given);
+        self.few = Few::Zero;
         self.bytes.pop();
     }
 
     /// Drops all that is held.
     pub fn clear(&mut self)
-        requires { self.old.ready ≡ [] }
         ensures clears { self.new ≡ holding [] [] }
     {
-        self.given = None;
+        self.few = Few::Zero;
         self.bytes.clear();
     }
 
     /// Makes a few items ready; what is held stays.
     pub fn say(&mut self, few: Few)
-        requires { self.old.ready ≡ [] }
         ensures says { self.new ≡ holding self.old.held (items few) }
     {
-        if self.given.take().is_some() {
-            self.bytes.clear();
-        }
+        drop_given(&mut self.bytes, &mut self.given);
         self.few = few;
     }
 
     /// Gives out all that is held, and a few items behind it.
     pub fn give(&mut self, tail: Few)
-        requires { self.old.ready ≡ [] }
         ensures gives { self.new ≡ holding [] (map Byte self.old.held ++ items tail) }
     {
-        if self.given.take().is_some() {
-            self.bytes.clear();
-        }
+        drop_given(&mut self.bytes, &mut self.given);
         self.given = Some(0);
         self.few = tail;
     }
