@@ -2,7 +2,7 @@
 use Rattle.std.specs.Prelude.{ℕ, ◌+◌, ◌-◌, Bool, true, false, cond, ◌&&◌, List, [], ◌∷◌, Some, None, codes, Option, ◌==◌, nat_le}
 use Rattle.item.specs.declared.Item.{Item}
 use Rattle.item.specs.declared.Item.TheVariants.{Byte, End, Note}
-use Rattle.lane.specs.Rule.{Rule, holding}
+use Rattle.lane.specs.Rule.{Rule, holding, each}
 
 abbrev pub small : ℕ → Bool
 small c = nat_le 97 c && nat_le c 122
@@ -41,7 +41,7 @@ gives_down End = End ∷ []
 gives_down (Note k) = Note k ∷ []
 
 abbrev pub down_rule : Rule (Unit {0})
-down_rule = record { first = tt; does = λ s x. holding tt (gives_down x) }
+down_rule = each gives_down
 
 abbrev pub echo_rule : Rule (Unit {0})
 echo_rule = down_rule

@@ -1,12 +1,12 @@
 // The lanes that go down: to capitals, and a backslash before what would be lost.
 ghost use Rattle.std.specs.Prelude.{◌≡◌};
 ghost use Rattle.lane.specs.Few.{items};
-ghost use Rattle.case_mapper.specs.Case.{byte_down, down_rule};
+ghost use Rattle.case_mapper.specs.Case.{byte_down, gives_down};
 
 use crate::partner::sign_of;
 use item::Item;
 use lane::few::Few;
-use lane::machine::Machine;
+use lane::machine::Mapping;
 
 /// What a byte becomes.
 fn sent(c: u8) -> Few
@@ -23,21 +23,13 @@ fn sent(c: u8) -> Few
 }
 
 /// It has no state.
-#[derive(Clone, Copy)]
+#[derive(Clone, Copy, Default)]
 pub struct CaseDown;
 
-impl Machine for CaseDown {
-    ghost State = { Unit {0} };
+impl Mapping for CaseDown {
+    ghost gives = { gives_down };
 
-    ghost rule = { down_rule };
-
-    ghost state = { λ _. tt };
-
-    fn new() -> CaseDown {
-        CaseDown
-    }
-
-    fn does(&mut self, x: Item) -> Few {
+    fn give(x: Item) -> Few {
         match x {
             Item::Byte(c) => sent(c),
             _ => Few::One(x),

@@ -2,7 +2,7 @@
 use Rattle.std.specs.Prelude.{ℕ, ◌-◌, ◌≤◌, Bool, cond, ◌||◌, List, [], ◌∷◌, ◌++◌, map, length, take, ◌==◌, nat_lt}
 use Rattle.item.specs.declared.Item.{Item}
 use Rattle.item.specs.declared.Item.TheVariants.{Byte, End, Note}
-use Rattle.lane.specs.Rule.{holding, Rule}
+use Rattle.lane.specs.Rule.{Rule, each}
 use Rattle.lane.specs.Lists.{after}
 use Rattle.lane.specs.Reply.{Both, both, ReplyRule, onward}
 
@@ -45,7 +45,7 @@ spelled End = End ∷ []
 spelled (Note k) = Note k ∷ []
 
 abbrev pub down_rule : Rule (Unit {0})
-down_rule = record { first = tt; does = λ s x. holding tt (spelled x) }
+down_rule = each spelled
 
 -- Whatever comes, the line held has at most 255 bytes.
 abbrev pub LineBounded : Type 0

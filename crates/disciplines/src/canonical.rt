@@ -3,12 +3,12 @@
 ghost use Rattle.std.specs.Prelude.{◌≡◌, ℕ, List, []};
 ghost use Rattle.lane.specs.Few.{items};
 ghost use Rattle.lane.specs.Reply.{both};
-ghost use Rattle.disciplines.specs.Canonical.{echo_of, erased, added, up_rule, down_rule, LineBounded};
+ghost use Rattle.disciplines.specs.Canonical.{echo_of, erased, added, spelled, up_rule, LineBounded};
 ghost use Rattle.disciplines.specs.Views.{up_held};
 
 use item::{Item, Refusal};
 use lane::few::Few;
-use lane::machine::Machine;
+use lane::machine::Mapping;
 use lane::reply::ReplyLane;
 use spool::Spool;
 
@@ -133,21 +133,13 @@ impl ReplyLane for CanonicalUp {
 }
 
 /// The down lane. It spells out the end of a line, and has no state.
-#[derive(Clone, Copy)]
+#[derive(Clone, Copy, Default)]
 pub struct CanonicalDown;
 
-impl Machine for CanonicalDown {
-    ghost State = { Unit {0} };
+impl Mapping for CanonicalDown {
+    ghost gives = { spelled };
 
-    ghost rule = { down_rule };
-
-    ghost state = { λ _. tt };
-
-    fn new() -> CanonicalDown {
-        CanonicalDown
-    }
-
-    fn does(&mut self, x: Item) -> Few {
+    fn give(x: Item) -> Few {
         match x {
             Item::Byte(LINE_FEED) => Few::Two(Item::Byte(RETURN), x),
             _ => Few::One(x),

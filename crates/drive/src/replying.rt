@@ -1,4 +1,5 @@
-// A list through a lane that replies.
+// A list through a lane that replies. What goes on and what goes back are two lists of the caller's, lent apart: a record of both
+// would be put together at one call and taken apart at the next.
 ghost use Rattle.std.specs.Prelude.{◌≡◌, [], ◌++◌, OnOk};
 ghost use Rattle.lane.specs.Reply.{both, ahead, behind, onward, back};
 ghost use Rattle.lane.specs.Lists.{stepped, onto, after};

@@ -21,6 +21,10 @@ pub record Rule (S : Type 0) : Type 0 where
 abbrev pub started : {S : Type 0} → Rule S → Held S
 started rule = holding rule.first []
 
+-- the rule of a lane with one state: what is ready is what the item gives
+abbrev pub each : (Item → List Item) → Rule (Unit {0})
+each gives = record { first = tt; does = λ s x. holding tt (gives x) }
+
 -- a step sets state and ready list from the state and the item alone;
 -- it is refused 8 exactly when items are ready, and then changes nothing
 abbrev pub Steps : {S L : Type 0} → Rule S → (L → Held S) → L → Item → Result (Unit {0}) Refusal → L → Type 0

@@ -1,7 +1,8 @@
 // Lanes that make at most a few items ready at a time: a state machine, and the few items.
-ghost use Rattle.std.specs.Prelude.{◌≡◌};
+ghost use Rattle.std.specs.Prelude.{◌≡◌, List};
+ghost use Rattle.item.specs.declared.Item.{Item};
 ghost use Rattle.lane.specs.Few.{items};
-ghost use Rattle.lane.specs.Rule.{Rule, holding};
+ghost use Rattle.lane.specs.Rule.{Rule, holding, each};
 
 use crate::Lane;
 use crate::few::Few;
@@ -22,6 +23,31 @@ pub trait Machine: Sized {
     /// The items that an item makes ready; the state that it makes follows.
     fn does(&mut self, x: Item) -> Few
         ensures does { holding (state self.new) (items result) ≡ rule.does (state self.old) x };
+}
+
+/// What each item makes ready, whatever came before it.
+pub trait Mapping: Default {
+    ghost gives: { Item → List Item };
+
+    fn give(x: Item) -> Few
+        ensures gives { items result ≡ gives x };
+}
+
+/// It is a machine with one state.
+impl<G: Mapping> Machine for G {
+    ghost State = { Unit {0} };
+
+    ghost rule = { each G.Mapping.gives };
+
+    ghost state = { λ _. tt };
+
+    fn new() -> G {
+        G::default()
+    }
+
+    fn does(&mut self, x: Item) -> Few {
+        G::give(x)
+    }
 }
 
 /// The lane of a machine.

@@ -1,26 +1,18 @@
 // The lane that passes every item as it is.
-ghost use Rattle.std.specs.Prelude.{◌≡◌, [], ◌∷◌};
-ghost use Rattle.lane.specs.Pass.{passes};
+ghost use Rattle.std.specs.Prelude.{◌≡◌};
+ghost use Rattle.lane.specs.Pass.{itself};
 
 use crate::few::Few;
-use crate::machine::{Machine, MachineLane};
+use crate::machine::{MachineLane, Mapping};
 use item::Item;
 
-#[derive(Clone, Copy)]
+#[derive(Clone, Copy, Default)]
 pub struct Passing;
 
-impl Machine for Passing {
-    ghost State = { Unit {0} };
+impl Mapping for Passing {
+    ghost gives = { itself };
 
-    ghost rule = { passes };
-
-    ghost state = { λ _. tt };
-
-    fn new() -> Passing {
-        Passing
-    }
-
-    fn does(&mut self, x: Item) -> Few {
+    fn give(x: Item) -> Few {
         Few::One(x)
     }
 }
