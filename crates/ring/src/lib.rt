@@ -6,7 +6,7 @@
 
 pub mod span;
 
-ghost use Rattle.std.specs.Prelude.{◌≡◌, ◌<◌, ◌≤◌, true, false, [], length, ◌==◌};
+ghost use Rattle.std.specs.Prelude.{◌≡◌, ◌≤◌, true, false, [], length, ◌==◌};
 ghost use Rattle.ring.specs.Elements.{elements, places_of, capacity_of, SameMemory, Fits, LaysOut, Puts, Takes};
 ghost use Rattle.item.specs.First.{Leads};
 
@@ -19,7 +19,7 @@ pub const MOST: usize = 1024;
 #[derive(Drop)]
 pub struct Ring<'a, T> {
     cells: &'a mut [T],
-    /// How many of the cells are places: none until they are laid out.
+    // How many of the cells are places: none until they are laid out.
     places: usize,
     span: Span,
 }
