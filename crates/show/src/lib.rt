@@ -159,3 +159,27 @@ pub fn spell<S: Style>(heap: Global, items: &[Item]) -> Result<String, AllocErro
 {
     Spelled::<S>::new(items).to_string(heap)
 }
+
+#[cfg(test)]
+mod tests {
+    use super::*;
+    use std::test::Fail;
+
+    #[test]
+    fn spells_in_each_style(rt: HostRuntime) -> Result<(), Fail> {
+        let heap = rt.alloc();
+        let items = [Item::Byte(b'K'), Item::Byte(10), Item::Note(12), Item::End];
+        let text = spell::<AsText>(heap, &items)?;
+        assert_eq!(rt;
+            text.as_str(),
+            "K<10><NOTE 12: a frame was broken off><END>"
+        );
+        let screen = spell::<OnScreen>(heap, &items)?;
+        assert_eq!(rt; screen.as_str(), "K<10><NOTE 12: a frame was broken off>");
+        let numbers = spell::<AsNumbers>(heap, &items)?;
+        assert_eq!(rt; numbers.as_str(), " 75 10");
+        let end = <AsText as Style>::show(heap, Item::End)?;
+        assert_eq!(rt; end.as_str(), "<END>");
+        Ok(())
+    }
+}
