@@ -16,7 +16,7 @@ use up::CaseUp;
 
 pub type CaseMapper = Lanes<MachineLane<CaseUp>, MachineLane<CaseDown>>;
 
-// The law: each byte is read back from what is sent for it.
+// The law: a record is read back from what is sent for it.
 fn reads_back()
     ensures law { RoundTrips }
 {}

@@ -68,7 +68,7 @@ impl<Q: Fifo, const LOOPS: bool> Serial<Q, LOOPS> {
         }
     }
 
-    // The list of a band.
+    // The list of a band: here and in list_mut is where a band is told apart.
     fn list(&self, band: Band) -> &Q
         ensures value { result.now ≡ list_of self.now band }
     {

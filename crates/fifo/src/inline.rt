@@ -10,6 +10,7 @@ use ring::span::Span;
 /// The most places of a list.
 pub const MOST: usize = 4096;
 
+// An array, for nothing here is allocated: the library's rings are, and its vector of fixed capacity takes from the front by moving all.
 #[derive(Drop)]
 pub struct Inline<const N: usize> {
     cells: [Item; N],

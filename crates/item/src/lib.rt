@@ -70,6 +70,7 @@ impl Band {
 
 impl Way {
     /// The number of the lane: 0 runs up, and band b goes down lane b + 1.
+    // A way down has its band in it, so a way is no number that could be cast.
     pub fn lane(self) -> u8
         ensures value { result ≡ lane_number self }
     {

@@ -54,6 +54,7 @@ fn push_group(group: &str, items: &mut Vec<Item>) -> Result<(), Failure> {
 }
 
 /// A byte, END or NOTEk.
+// Items are another crate's, and this is how the table spells them: so it is no `FromStr`.
 fn parse_item(word: &str) -> Result<Item, Failure> {
     if word == "END" {
         return Ok(Item::End);

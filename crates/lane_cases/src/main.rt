@@ -27,6 +27,7 @@ fn run(rt: &(impl Input + Print + AllocGlobal)) -> anyhow::Result<()> {
         if line.is_empty() || line.as_str().starts_with('#') {
             continue;
         }
+        // Two counts, which are kept while the lines that fail are printed.
         match check_line(heap, line.as_str()) {
             Ok(()) => right = right.saturating_add(1),
             Err(Failure::Memory(error)) => return Err(error.into()),

@@ -14,6 +14,7 @@ use std::alloc::Global;
 pub fn run_case(heap: Global, case: &Case) -> Result<(), Failure> {
     let (level, way) = case.lane.split_once(' ').ok_or(Failure::NoSuchLane)?;
     let way = parse_way(way)?;
+    // The names pick types, so no table of values could stand here.
     match level {
         "mapper" => run(heap, OfModule(CaseMapper::new()), way, case),
         "framer" => run(heap, OfModule(Framer::new()), way, case),
@@ -23,7 +24,7 @@ pub fn run_case(heap: Global, case: &Case) -> Result<(), Failure> {
     }
 }
 
-/// The way that a word names.
+/// The way that a word names; ways too are another crate's.
 fn parse_way(word: &str) -> Result<Way, Failure> {
     match word {
         "up" => Ok(Way::Up),

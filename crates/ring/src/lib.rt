@@ -16,6 +16,8 @@ use item::Refusal;
 /// The most places of a ring.
 pub const MOST: usize = 1024;
 
+// The places lie in memory handed over, as the line software has no heap. That this memory stays is promised at each call, since it
+// says what a call leaves, which no value can say of itself.
 #[derive(Drop)]
 pub struct Ring<'a, T> {
     cells: &'a mut [T],

@@ -12,6 +12,7 @@ use std::fmt::{self, Display, Formatter};
 use std::marker::PhantomData;
 
 /// What a NOTE tells.
+// A NOTE is any number from 1 to 255, so no enum stands for the three that have words of their own.
 fn meaning(note: u8) -> &'static str
     ensures value { result.now ≡ meaning_of note }
 {
