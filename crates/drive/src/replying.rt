@@ -20,6 +20,7 @@ fn drain_ready<L: ReplyLane>(lane: &mut L, out: &mut Vec<Item>) -> Result<(), Al
 }
 
 /// The reply goes behind `replies`.
+// The loop of drain_ready over another list: one for both would need a longer contract than the loop, to say that it ends.
 fn drain_reply<L: ReplyLane>(lane: &mut L, replies: &mut Vec<Item>) -> Result<(), AllocError>
     ensures gives { OnOk result (replies.new.items ≡ replies.old.items ++ (L.ReplyLane.holds lane.old).reply) }
     ensures leaves { OnOk result (L.ReplyLane.holds lane.new ≡ both (L.ReplyLane.holds lane.old).state (L.ReplyLane.holds lane.old).ready []) }

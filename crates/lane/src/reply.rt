@@ -35,33 +35,28 @@ pub trait ReplyLane: Sized {
         ensures takes { TakesReply holds self.old result self.new };
 }
 
-/// Any lane, as one that never replies.
-#[derive(Drop)]
-pub struct Silent<L> {
-    lane: L,
-}
-
-impl<L: Lane> ReplyLane for Silent<L> {
+/// Any lane is one that never replies.
+impl<L: Lane> ReplyLane for L {
     ghost State = { L.Lane.State };
 
     ghost rule = { silent L.Lane.rule };
 
-    ghost holds = { λ s. both (L.Lane.holds s.lane).state (L.Lane.holds s.lane).ready [] };
+    ghost holds = { λ l. both (L.Lane.holds l).state (L.Lane.holds l).ready [] };
 
-    fn new() -> Self {
-        Silent { lane: L::new() }
+    fn new() -> L {
+        <L as Lane>::new()
     }
 
     fn step(&mut self, x: Item) -> Result<(), Refusal> {
-        self.lane.step(x)
+        Lane::step(self, x)
     }
 
     fn first(&self) -> Option<Item> {
-        self.lane.first()
+        Lane::first(self)
     }
 
     fn take(&mut self) -> Option<Item> {
-        self.lane.take()
+        Lane::take(self)
     }
 
     fn first_reply(&self) -> Option<Item> {
