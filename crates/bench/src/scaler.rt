@@ -45,6 +45,7 @@ pub struct Exchange {
 }
 
 // The law: a record of up to 1,024 bytes that is sent is read as it was.
+#[tactic(auto, using(crate::proofs::Back::comes_back))]
 fn comes_back()
     ensures law { ComesBack }
 {}

@@ -13,9 +13,9 @@ fn sent(c: u8) -> Few
     ensures value { items result ≡ byte_down c }
 {
     match c {
-        b'a'..=b'z' => Few::One(Item::Byte(c - 32)),
+        b'a'..=b'z' => Few::One(Item::Byte(c.to_ascii_uppercase())),
         b'A'..=b'Z' => Few::Two(Item::Byte(b'\\'), Item::Byte(c)),
-        _ => match sign_of(c as char) {
+        _ => match sign_of(char::from(c)) {
             Some(s) => Few::Two(Item::Byte(b'\\'), Item::Byte(s as u8)),
             None => Few::One(Item::Byte(c)),
         },

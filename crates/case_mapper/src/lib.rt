@@ -17,6 +17,7 @@ use up::CaseUp;
 pub type CaseMapper = Lanes<MachineLane<CaseUp>, MachineLane<CaseDown>>;
 
 // The law: a record is read back from what is sent for it.
+#[tactic(auto, using(crate::proofs::Trip::round_trips))]
 fn reads_back()
     ensures law { RoundTrips }
 {}

@@ -1,5 +1,5 @@
 // The six characters that such a terminal lacks, and the signs that stand for them behind a backslash.
-// Both ways are cases of char literals, which is the form wanted for them; one table read two ways would need a search.
+// Both ways are cases of char literals, a form that is set (docs/DECISIONS.md, Forms); one table read both ways would need a search.
 ghost use Rattle.std.specs.Prelude.{◌≡◌};
 ghost use Rattle.case_mapper.specs.Case.{partner, lacking, signs};
 

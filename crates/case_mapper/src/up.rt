@@ -13,9 +13,8 @@ fn after_backslash(c: u8) -> Few
     ensures value { items result ≡ byte_after c }
 {
     match c {
-        b'a'..=b'z' => Few::One(Item::Byte(c - 32)),
-        b'A'..=b'Z' => Few::One(Item::Byte(c)),
-        _ => match meant_by(c as char) {
+        b'a'..=b'z' | b'A'..=b'Z' => Few::One(Item::Byte(c.to_ascii_uppercase())),
+        _ => match meant_by(char::from(c)) {
             Some(p) => Few::One(Item::Byte(p as u8)),
             None => Few::Two(Item::Byte(b'\\'), Item::Byte(c)),
         },
@@ -28,10 +27,7 @@ fn read(held: bool, x: Item) -> Few
 {
     match (held, x) {
         (false, Item::Byte(b'\\')) => Few::Zero,
-        (false, Item::Byte(c)) => match c {
-            b'A'..=b'Z' => Few::One(Item::Byte(c + 32)),
-            _ => Few::One(x),
-        },
+        (false, Item::Byte(c)) => Few::One(Item::Byte(c.to_ascii_lowercase())),
         (false, _) => Few::One(x),
         (true, Item::Byte(c)) => after_backslash(c),
         (true, _) => Few::Two(Item::Byte(b'\\'), x),

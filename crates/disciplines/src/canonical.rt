@@ -41,6 +41,7 @@ pub fn longest_line() -> usize
 }
 
 /// Only says that a line stays within its bound.
+#[tactic(auto, using(crate::proofs::Bounds::line_bounded))]
 fn stays_bounded()
     ensures bounded { LineBounded }
 {}

@@ -57,13 +57,12 @@ fn pass_one<L: ReplyLane>(
     ensures leaves { OnOk result (L.ReplyLane.holds lane.new ≡ both (L.ReplyLane.rule.does (L.ReplyLane.holds lane.old).state x).state [] []) }
 {
     drain(lane, out, replies)?;
-    match lane.step(x) {
-        Ok(()) => drain(lane, out, replies),
-        Err(_) => unreachable(),
-    }
+    lane.step(x).unwrap();
+    drain(lane, out, replies)
 }
 
 // A list is stepped through a lane that has nothing ready.
+#[tactic(auto, using(std::proofs::lemmas::List::take_all))]
 fn pass_each<L: ReplyLane>(
     lane: &mut L,
     given: &[Item],

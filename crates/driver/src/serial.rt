@@ -32,13 +32,7 @@ fn next_begun(was: Option<Band>, from: Band, x: Item) -> Option<Band>
 fn choose<Q: Fifo>(begun: Option<Band>, echo: &Q) -> Band
     ensures value { result ≡ chosen_from begun (Q.Fifo.items echo.now) }
 {
-    match begun {
-        Some(b) => b,
-        None => match echo.first() {
-            None => Band::Records,
-            Some(_) => Band::Echo,
-        },
-    }
+    begun.unwrap_or_else(|| echo.first().map_or(Band::Records, |_| Band::Echo))
 }
 
 /// Puts items behind others, where there is room for all.
@@ -48,9 +42,7 @@ fn put_all<Q: Fifo>(list: &mut Q, items: &[Item])
     ensures room { Q.Fifo.room list.new ≡ Q.Fifo.room list.old }
 {
     for x in items {
-        if list.put(*x).is_err() {
-            unreachable();
-        }
+        list.put(*x).unwrap();
     }
 }
 

@@ -10,7 +10,9 @@ use ring::span::Span;
 /// The most places of a list.
 pub const MOST: usize = 4096;
 
-// An array, for nothing here is allocated: the library's rings are, and its vector of fixed capacity takes from the front by moving all.
+// An array, since nothing here may be allocated: the library's ring is, and its vector of fixed capacity moves every item where the
+// first is taken. A `Ring` does the same calls on memory handed over; one record over either would need a trait for where the
+// places lie, of as many lines.
 #[derive(Drop)]
 pub struct Inline<const N: usize> {
     cells: [Item; N],
@@ -47,10 +49,8 @@ impl<const N: usize> Fifo for Inline<N> {
     }
 
     fn take(&mut self) -> Option<Item> {
-        let mut span = self.span;
-        let x = span.take(self.places())?;
-        self.span = span;
-        Some(x)
+        let places = self.capacity();
+        self.span.take(&self.cells[..places])
     }
 
     fn first(&self) -> Option<Item> {

@@ -31,6 +31,7 @@ const FLIP: u8 = 64;
 const LONGEST: usize = 1025;
 
 // The law: what is sent for a record of up to 1,024 bytes, the up lane turns back into that record.
+#[tactic(auto, using(crate::proofs::Trip::round_trips))]
 fn reads_back()
     ensures round_trip { RoundTrips }
 {}

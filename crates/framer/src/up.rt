@@ -42,7 +42,8 @@ pub struct FrameUp {
     body: Spool<LONGEST>,
 }
 
-// The exclusive or of some bytes: 0 for a body with its check byte. A loop over the elements is the form wanted for it.
+// The exclusive or of some bytes: 0 for a body with its check byte. The loop is a form that is set (docs/DECISIONS.md,
+// Forms).
 fn check(s: &[u8]) -> u8
     ensures value { result ≡ xor_of s.now }
 {

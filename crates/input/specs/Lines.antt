@@ -5,7 +5,7 @@ use Rattle.input.specs.declared.Lines.{Lines}
 use Rattle.item.specs.declared.Item.{Item}
 use Rattle.item.specs.declared.Item.TheVariants.{Byte, End}
 
--- 10 and 13 end a line
+-- 10 and 13 end a line; the discipline that edits lines has a rule of its own that agrees
 abbrev pub ends : ℕ → Bool
 ends b = b == 10 || b == 13
 

@@ -15,7 +15,7 @@ use std::alloc::{AllocError, Global};
 fn ends_line(b: u8) -> bool
     ensures value { result ≡ ends b }
 {
-    matches!(b, 10 | 13)
+    matches!(b, b'\n' | b'\r')
 }
 
 /// How long the first line is, with the byte that ends it: up to the first such byte, or all where there is none.

@@ -52,6 +52,17 @@ impl From<Band> for u8 {
     }
 }
 
+impl From<Way> for u8 {
+    ghost from_gives = { λ w r. r ≡ lane_number w };
+
+    fn from(way: Way) -> u8 {
+        match way {
+            Way::Up => 0,
+            Way::Down(band) => u8::from(band) + 1,
+        }
+    }
+}
+
 impl From<Refusal> for u8 {
     ghost from_gives = { λ e r. r ≡ number e };
 
@@ -70,14 +81,10 @@ impl Band {
 
 impl Way {
     /// The number of the lane: 0 runs up, and band b goes down lane b + 1.
-    // A way down has its band in it, so a way is no number that could be cast.
     pub fn lane(self) -> u8
         ensures value { result ≡ lane_number self }
     {
-        match self {
-            Way::Up => 0,
-            Way::Down(band) => band.number() + 1,
-        }
+        u8::from(self)
     }
 }
 

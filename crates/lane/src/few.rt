@@ -1,5 +1,5 @@
 // Up to four items: the ready list of most steps.
-// It stays an enum: it can be copied, which the library's vectors of fixed capacity cannot, and a step writes it whole.
+// It stays an enum: it can be copied, which the library's vectors of fixed capacity cannot.
 ghost use Rattle.std.specs.Prelude.{◌≡◌, [], ◌∷◌, MatchOption};
 ghost use Rattle.lane.specs.Few.{items};
 ghost use Rattle.item.specs.First.{Leads};

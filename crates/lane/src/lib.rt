@@ -1,5 +1,5 @@
 // A lane: one way through one level. It has a state and a list of ready items, and turns each item that it is stepped
-// with into the next ready list. Lanes are values without invariants, so that any can stand in a pile over any driver.
+// with into the next ready list. A lane's every value is legal, and any can stand in a pile over any driver.
 // Promises: every lane does what its rule says, and a refused step changes nothing.
 #![tactic(auto)]
 

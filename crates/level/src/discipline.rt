@@ -34,7 +34,7 @@ pub trait Discipline: Sized {
 }
 
 /// The discipline that is made of these lanes.
-// They too have types of their own, and the echo is one lane's reply: so each call matches on the way, as a module's do.
+// Its lanes have types of their own, and the echo is the reply of one: so each call matches on the way, as a module's do.
 #[derive(Drop)]
 pub struct TopLanes<U, D> {
     pub up: U,

@@ -30,7 +30,7 @@ pub trait Module: Sized {
 }
 
 /// The module that is made of these lanes: one up, and two alike for what goes down.
-// Its lanes have types of their own, and a lane as `dyn` has no rule to promise by: so each call matches on the way.
+// The lane up has a type of its own, and a lane as `dyn` has no rule to promise by: so each call matches on the way.
 #[derive(Drop)]
 pub struct Lanes<U, D> {
     pub up: U,

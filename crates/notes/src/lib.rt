@@ -6,6 +6,7 @@ ghost use Rattle.std.specs.Prelude.{◌≡◌};
 ghost use Rattle.notes.specs.Notes.{NotesKept};
 
 // Every lane keeps to such NOTEs.
+#[tactic(auto, using(crate::proofs::Kept::notes_kept))]
 fn all_kept()
     ensures law { NotesKept }
 {}

@@ -1,20 +1,25 @@
 -- What a ring holds, first to last, and what its calls do to that.
-use Rattle.std.specs.Prelude.{◌≡◌, ℕ, ◌<◌, ◌≤◌, min, List, [], ◌∷◌, ◌++◌, length, take, Ok, Err, Result}
+use Rattle.std.specs.Prelude.{◌≡◌, ℕ, ◌<◌, ◌≤◌, List, [], ◌∷◌, ◌++◌, length, Ok, Err, Result, Option, Some, None}
 use Rattle.item.specs.declared.Refusal.{Refusal}
 use Rattle.item.specs.Numbers.{number}
 use Rattle.ring.specs.declared.Ring.{Ring}
+use Rattle.ring.specs.declared.span.Span.{Span}
 use Rattle.ring.specs.Span.{spanned}
 
 -- how many places there are: all the memory, once laid out
-abbrev pub capacity_of : {X : Type 0} → Ring X → ℕ
-capacity_of r = min r.places (length r.cells.now)
+abbrev pub places_by : {X : Type 0} → Option Span → List X → ℕ
+places_by None xs = 0
+places_by (Some s) xs = length xs
 
--- the cells that are places
-abbrev pub places_of : {X : Type 0} → Ring X → List X
-places_of r = take (capacity_of r) r.cells.now
+abbrev pub capacity_of : {X : Type 0} → Ring X → ℕ
+capacity_of r = places_by r.span r.cells.now
+
+abbrev pub elements_by : {X : Type 0} → Option Span → List X → List X
+elements_by None xs = []
+elements_by (Some s) xs = spanned s xs
 
 abbrev pub elements : {X : Type 0} → Ring X → List X
-elements r = spanned r.span (places_of r)
+elements r = elements_by r.span r.cells.now
 
 -- as many places as before, in the memory that was handed over
 pub record SameMemory {X : Type 0} (a b : Ring X) : Type 0 where

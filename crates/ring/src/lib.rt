@@ -7,7 +7,7 @@
 pub mod span;
 
 ghost use Rattle.std.specs.Prelude.{◌≡◌, ◌≤◌, true, false, [], length, ◌==◌};
-ghost use Rattle.ring.specs.Elements.{elements, places_of, capacity_of, SameMemory, Fits, LaysOut, Puts, Takes};
+ghost use Rattle.ring.specs.Elements.{elements, capacity_of, SameMemory, Fits, LaysOut, Puts, Takes};
 ghost use Rattle.item.specs.First.{Leads};
 
 use crate::span::Span;
@@ -16,14 +16,13 @@ use item::Refusal;
 /// The most places of a ring.
 pub const MOST: usize = 1024;
 
-// The places lie in memory handed over, as the line software has no heap. That this memory stays is promised at each call, since it
-// says what a call leaves, which no value can say of itself.
+// The places lie in memory handed over, as the line software has no heap. Each call promises that it is the same memory after it: a
+// fact about two values, which no invariant of one can hold.
 #[derive(Drop)]
 pub struct Ring<'a, T> {
     cells: &'a mut [T],
-    // How many of the cells are places: none until they are laid out.
-    places: usize,
-    span: Span,
+    // None until the cells are laid out.
+    span: Option<Span>,
 }
 
 impl<'a, T: Copy> Ring<'a, T> {
@@ -34,11 +33,7 @@ impl<'a, T: Copy> Ring<'a, T> {
         ensures memory { result.cells.now ≡ cells.old }
         ensures lent { result.cells.ghost_name ≡ cells.entry.ghost_name }
     {
-        Ring {
-            cells,
-            places: 0,
-            span: Span::new(),
-        }
+        Ring { cells, span: None }
     }
 
     /// Is the memory enough for a ring, and not too much: 1 to 1,024 places?
@@ -57,30 +52,36 @@ impl<'a, T: Copy> Ring<'a, T> {
         if !self.fits() {
             return Err(Refusal::OutOfBounds);
         }
-        self.places = self.cells.len();
-        self.span = Span::new();
+        self.span = Some(Span::new());
         Ok(())
+    }
+
+    // The memory handed over.
+    fn cells(&self) -> &[T]
+        ensures value { result.now ≡ self.now.cells.now }
+    {
+        &self.cells[..]
     }
 
     pub fn capacity(&self) -> usize
         ensures value { result ≡ capacity_of self.now }
         ensures within { result ≤ length self.now.cells.now }
     {
-        self.places.min(self.cells.len())
-    }
-
-    // The cells that are places.
-    fn places(&self) -> &[T]
-        ensures value { result.now ≡ places_of self.now }
-    {
-        &self.cells[..self.capacity()]
+        if self.span.is_some() {
+            self.cells.len()
+        } else {
+            0
+        }
     }
 
     pub fn len(&self) -> usize
         ensures value { result ≡ length (elements self.now) }
         ensures within { result ≤ capacity_of self.now }
     {
-        self.span.len(self.places())
+        match self.span {
+            Some(span) => span.len(self.cells()),
+            None => 0,
+        }
     }
 
     pub fn is_empty(&self) -> bool
@@ -94,15 +95,17 @@ impl<'a, T: Copy> Ring<'a, T> {
         ensures puts { Puts self.old x result self.new }
         ensures lent { SameMemory self.old self.new }
     {
-        let places = self.capacity();
-        self.span.put(&mut self.cells[..places], x)
+        let mut span = self.span.ok_or(Refusal::NoSpace)?;
+        span.put(&mut self.cells[..], x)?;
+        self.span = Some(span);
+        Ok(())
     }
 
     /// The first, which stays, or none exactly when the ring is empty.
     pub fn first(&self) -> Option<T>
         ensures leads { Leads (elements self.now) result }
     {
-        self.span.first(self.places())
+        self.span?.first(self.cells())
     }
 
     /// The first leaves. Refused 9 exactly when the ring is empty.
@@ -110,9 +113,9 @@ impl<'a, T: Copy> Ring<'a, T> {
         ensures takes { Takes self.old result self.new }
         ensures lent { SameMemory self.old self.new }
     {
-        let mut span = self.span;
-        let x = span.take(self.places()).ok_or(Refusal::Nothing)?;
-        self.span = span;
+        let mut span = self.span.ok_or(Refusal::Nothing)?;
+        let x = span.take(self.cells()).ok_or(Refusal::Nothing)?;
+        self.span = Some(span);
         Ok(x)
     }
 
@@ -123,6 +126,6 @@ impl<'a, T: Copy> Ring<'a, T> {
         ensures places { capacity_of self.new ≡ capacity_of self.old }
         ensures lent { SameMemory self.old self.new }
     {
-        self.span.clear();
+        self.span = self.span.map(|_| Span::new());
     }
 }

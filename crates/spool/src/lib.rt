@@ -49,7 +49,7 @@ fn drop_given<const N: usize>(bytes: &mut Buffer<N>, given: &mut Option<usize>)
     }
 }
 
-// A call that changes a spool drops what was ready: a lane asks `first` before it makes one.
+// A call that changes what is held or ready drops what was ready: a lane asks `first` before it makes one. A take drops only what it gives.
 impl<const N: usize> Spool<N> {
     pub fn new() -> Spool<N>
         ensures empty { result ≡ holding [] [] }

@@ -18,10 +18,7 @@ pub fn arrive_some<D: Driver>(driver: &mut D, items: &[Item]) -> usize
 {
     let free = driver.waiting_room().saturating_sub(driver.waiting());
     let taken = items.len().min(free);
-    match driver.arrive(&items[..taken]) {
-        Ok(()) => taken,
-        Err(_) => 0,
-    }
+    driver.arrive(&items[..taken]).map_or(0, |()| taken)
 }
 
 /// Everything that waits goes behind `out`.

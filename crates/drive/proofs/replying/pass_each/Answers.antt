@@ -1,7 +1,6 @@
 use Rattle.std.proofs.Common.{[], take, ap, ◌∙◌, rules}
 use Rattle.item.specs.declared.Item.TheVariants.{Byte}
 use Rattle.lane.specs.Reply.{both, onward, back}
-use Rattle.std.proofs.lemmas.List.{take_all}
 use Rattle.drive.proofs.Turns.{turn_gives, turn_after, same_states}
 use Rattle.drive.proofs.replying.pass_each.Goals as goal
 
@@ -17,6 +16,3 @@ loop-x-preserved g c =
       turn_gives (back rule) _ _ xs i (Byte 0) _ _ _ _ c.loop-x-test.true now.1 (ap (λ h. h.reply) now.2) (state ∙ same_states rule (g.L.ReplyLane.holds c.args.lane.now).state (take i xs)) one.replies,
       one.leaves ∙ ap (λ s. both s [] []) (turn_after (onward rule) _ _ xs i (Byte 0) c.loop-x-test.true state),
     )
-
-pub returns : goal.returns
-returns g c = search (rules, take_all)
