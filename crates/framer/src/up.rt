@@ -18,7 +18,8 @@ const STOP_FLIPPED: u8 = STOP ^ FLIP;
 
 const ESCAPE_FLIPPED: u8 = ESCAPE ^ FLIP;
 
-// The NOTE for a body that fails its check.
+// The NOTE for a body that fails its check. A NOTE travels as its number: an enum of the three would be turned into one where it is
+// made, and back where it is shown.
 const FAILED: u8 = 11;
 
 // The NOTE for a body that breaks off.
