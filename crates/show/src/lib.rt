@@ -4,6 +4,7 @@
 
 ghost use Rattle.std.specs.Prelude.{◌≡◌, ℕ, List, Some, IfOk, string_bytes};
 ghost use Rattle.item.specs.declared.Item.{Item};
+ghost use Rattle.std.proofs.Common.{ap};
 ghost use Rattle.show.specs.Shown.{byte_text, meaning_of, item_text, screen_text, number_text, spelled, items_of};
 
 use item::Item;
@@ -12,7 +13,7 @@ use std::fmt::{self, Display, Formatter};
 use std::marker::PhantomData;
 
 /// What a NOTE tells.
-// A NOTE is any number from 1 to 255, so no enum stands for the three that have words of their own.
+// A NOTE travels as its number: an enum of the three would be turned into it where it is made and back here, and be no plainer.
 fn meaning(note: u8) -> &'static str
     ensures value { result.now ≡ meaning_of note }
 {
@@ -34,25 +35,24 @@ impl Display for Printable {
     fn fmt<W: fmt::Write>(&self, f: &mut Formatter<W>) -> fmt::Result {
         let b = self.0;
         match b {
-            32..=126 => write!(f, "{}", b as char),
+            b' '..=b'~' => write!(f, "{}", char::from(b)),
             _ => write!(f, "<{b}>"),
         }
     }
 }
 
 /// A way to show items.
-pub trait Style: Display + Drop + Sized {
+pub trait Style: Display + From<Item> + Drop + Sized {
     ghost shows: { Item → List ℕ };
-
-    /// The item, to be shown in this way.
-    fn of(item: Item) -> Self
-        ensures shown { Self.output result ≡ Some (shows item) };
 
     fn show(heap: Global, item: Item) -> Result<String, AllocError>
         ensures value { IfOk result (λ s. string_bytes s ≡ shows item) }
     {
-        Self::of(item).to_string(heap)
+        Self::from(item).to_string(heap)
     }
+
+    /// A style made of an item shows that item.
+    ghost shown: { (item : Item) (s : Self) → Self.From.from_gives item s → Self.Display.output s ≡ Some (shows item) };
 }
 
 /// Everything shows.
@@ -71,12 +71,18 @@ impl Display for AsText {
     }
 }
 
+impl From<Item> for AsText {
+    ghost from_gives = { λ item s. s.0 ≡ item };
+
+    fn from(item: Item) -> AsText {
+        AsText(item)
+    }
+}
+
 impl Style for AsText {
     ghost shows = { item_text };
 
-    fn of(item: Item) -> Self {
-        AsText(item)
-    }
+    ghost shown = { λ item s held. ap (λ (x : Item). Some (item_text x)) held };
 }
 
 /// The ends of records do not show.
@@ -94,12 +100,18 @@ impl Display for OnScreen {
     }
 }
 
+impl From<Item> for OnScreen {
+    ghost from_gives = { λ item s. s.0 ≡ item };
+
+    fn from(item: Item) -> OnScreen {
+        OnScreen(item)
+    }
+}
+
 impl Style for OnScreen {
     ghost shows = { screen_text };
 
-    fn of(item: Item) -> Self {
-        OnScreen(item)
-    }
+    ghost shown = { λ item s held. ap (λ (x : Item). Some (screen_text x)) held };
 }
 
 /// Bytes show as numbers, and nothing else shows.
@@ -117,12 +129,18 @@ impl Display for AsNumbers {
     }
 }
 
+impl From<Item> for AsNumbers {
+    ghost from_gives = { λ item s. s.0 ≡ item };
+
+    fn from(item: Item) -> AsNumbers {
+        AsNumbers(item)
+    }
+}
+
 impl Style for AsNumbers {
     ghost shows = { number_text };
 
-    fn of(item: Item) -> Self {
-        AsNumbers(item)
-    }
+    ghost shown = { λ item s held. ap (λ (x : Item). Some (number_text x)) held };
 }
 
 /// Some items in a style, one after the other.
@@ -148,7 +166,7 @@ impl<S: Style> Display for Spelled<'_, S> {
 
     fn fmt<W: fmt::Write>(&self, f: &mut Formatter<W>) -> fmt::Result {
         for item in self.items {
-            write!(f, "{}", S::of(*item))?;
+            write!(f, "{}", S::from(*item))?;
         }
         Ok(())
     }
