@@ -1,4 +1,5 @@
 // Why a line of the table fails.
+use item::Refusal;
 use std::alloc::AllocError;
 use std::num::ParseIntError;
 use thiserror::Error;
@@ -21,5 +22,12 @@ pub enum Failure {
 impl From<ParseIntError> for Failure {
     fn from(_error: ParseIntError) -> Failure {
         Failure::NotACase
+    }
+}
+
+/// A step that is refused, where it should be taken.
+impl From<Refusal> for Failure {
+    fn from(_refusal: Refusal) -> Failure {
+        Failure::OutOfOrder
     }
 }

@@ -21,13 +21,13 @@ fn check_line(heap: Global, line: &str) -> Result<(), Failure> {
 
 fn run(rt: &(impl Input + Print + AllocGlobal)) -> anyhow::Result<()> {
     let heap = rt.alloc();
+    // A line that fails is printed as it is met, so no iterator method gives both counts.
     let (mut right, mut wrong) = (0u64, 0u64);
     for (number, line) in (1u64..).zip(rt.lines(heap)) {
         let line = line?;
         if line.is_empty() || line.as_str().starts_with('#') {
             continue;
         }
-        // Two counts, which are kept while the lines that fail are printed.
         match check_line(heap, line.as_str()) {
             Ok(()) => right = right.saturating_add(1),
             Err(Failure::Memory(error)) => return Err(error.into()),

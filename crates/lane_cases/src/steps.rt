@@ -9,13 +9,9 @@ ghost use Rattle.level.specs.Discipline.{top_ready};
 use item::{Band, Item, Refusal, Way};
 use level::discipline::Discipline;
 use level::module::Module;
-use std::slice;
 
 pub trait Steps {
     ghost waits: { Way → Self → List Item };
-
-    /// The ways on which a step for a way can make items ready.
-    fn filled(way: &Way) -> &[Way];
 
     fn step(&mut self, way: Way, item: Item) -> Result<(), Refusal>;
 
@@ -34,10 +30,6 @@ pub struct OfModule<M>(pub M);
 
 impl<M: Module> Steps for OfModule<M> {
     ghost waits = { λ way s. ready way (M.Module.level s.0) };
-
-    fn filled(way: &Way) -> &[Way] {
-        slice::from_ref(way)
-    }
 
     fn step(&mut self, way: Way, item: Item) -> Result<(), Refusal> {
         self.0.step(way, item)
@@ -59,14 +51,8 @@ pub struct OfDiscipline<D>(pub D);
 impl<D: Discipline> Steps for OfDiscipline<D> {
     ghost waits = { λ way s. top_ready way (D.Discipline.top s.0) };
 
-    fn filled(way: &Way) -> &[Way] {
-        match way {
-            Way::Up | Way::Down(Band::Echo) => &[Way::Up, Way::Down(Band::Echo)],
-            Way::Down(Band::Records) => slice::from_ref(way),
-        }
-    }
-
     fn step(&mut self, way: Way, item: Item) -> Result<(), Refusal> {
+        // A discipline has a call of its own for each kind of step.
         match way {
             Way::Up | Way::Down(Band::Echo) => self.0.step_up(item),
             Way::Down(Band::Records) => self.0.step_down(item),
