@@ -47,12 +47,14 @@ fn run<R: Input + Print + AllocGlobal>(rt: &R) -> anyhow::Result<()> {
         return Ok(());
     }
     let mut terminal = Terminal::new(rt, line);
+    let mut lines = 0;
     for (number, line) in (1u64..).zip(Lines::new(typed.as_slice())) {
         terminal.type_line(number, line)?;
+        lines = number;
     }
     terminal.print_begun()?;
     print_loop(rt)?;
-    println!(rt; "Lines typed: {}", Lines::new(typed.as_slice()).count())?;
+    println!(rt; "Lines typed: {lines}")?;
     Ok(())
 }
 

@@ -7,7 +7,7 @@ use bench::desk::Desk;
 use driver::Driver;
 use input::line_items;
 use item::{Band, Item};
-use report::print_reader;
+use report::{print_heading, print_reader};
 use wire::{arrive_some, fetch_all, offer_all, send_all};
 
 /// The record that answers a line.
@@ -49,7 +49,7 @@ impl<'a, R: Print + AllocGlobal, D: Driver + Drop> Terminal<'a, R, D> {
     /// typed again in bursts that fit.
     pub fn type_line(&mut self, number: u64, typed: &[u8]) -> anyhow::Result<()> {
         let items = line_items(self.rt.alloc(), typed)?;
-        println!(self.rt; "Line {number}, of {} typed bytes:", typed.len())?;
+        print_heading(self.rt, number, typed)?;
         let report = self.type_items(items.as_slice())?;
         print_order(self.rt, report.sent.as_slice())?;
         print_reader(self.rt, report.reader.as_slice())
@@ -62,7 +62,7 @@ impl<'a, R: Print + AllocGlobal, D: Driver + Drop> Terminal<'a, R, D> {
             reader: Vec::new(heap),
             sent: Vec::new(heap),
         };
-        // A while: how long the next burst is shows only when it arrives.
+        // How long the next burst is shows only when it arrives, so this is no `for`.
         let mut rest = items;
         while !rest.is_empty() {
             let taken = self.arrive(rest)?;

@@ -7,6 +7,7 @@ use bench::scaler::{read_by_scaler, send_and_read_back};
 use damage::{bit_wrong, cut_and_sent_again};
 use item::Item;
 use show::{AsNumbers, AsText, Spelled};
+use std::fmt::Display;
 use std::io::Read;
 
 /// What a terminal says at first.
@@ -24,6 +25,12 @@ pub fn typed_bytes(rt: &(impl Input + AllocGlobal)) -> anyhow::Result<Vec<u8>>
         bytes.extend_from_slice(SAMPLE)?;
     }
     Ok(bytes)
+}
+
+/// Prints the heading of a typed line: its number, and how long it is.
+pub fn print_heading(rt: &impl Print, number: u64, typed: &[u8]) -> anyhow::Result<()> {
+    println!(rt; "Line {number}, of {} typed bytes:", typed.len())?;
+    Ok(())
 }
 
 /// Prints what the reader gets and, if that is anything, how it comes to the scaler.
@@ -48,15 +55,28 @@ fn print_frame(rt: &(impl Print + AllocGlobal), record: &[Item]) -> anyhow::Resu
     )?;
     let place = frame.len() / 2;
     let wrong = bit_wrong(heap, frame, place)?;
-    let read = read_by_scaler(heap, wrong.as_slice())?;
-    println!(rt;
-        "  with a bit wrong in byte {place}, it reads  {}",
-        Spelled::<AsText>::new(read.as_slice())
+    print_read(
+        rt,
+        format_args!("with a bit wrong in byte {place}"),
+        wrong.as_slice(),
     )?;
     let twice = cut_and_sent_again(heap, frame, place)?;
-    let read = read_by_scaler(heap, twice.as_slice())?;
+    print_read(
+        rt,
+        format_args!("cut off after {place} bytes and sent again"),
+        twice.as_slice(),
+    )
+}
+
+/// Prints how a frame was damaged, and what the scaler reads of it.
+fn print_read(
+    rt: &(impl Print + AllocGlobal),
+    damage: impl Display + Drop,
+    line: &[Item],
+) -> anyhow::Result<()> {
+    let read = read_by_scaler(rt.alloc(), line)?;
     println!(rt;
-        "  cut off after {place} bytes and sent again, it reads  {}",
+        "  {damage}, it reads  {}",
         Spelled::<AsText>::new(read.as_slice())
     )?;
     Ok(())

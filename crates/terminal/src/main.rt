@@ -5,7 +5,7 @@
 
 use bench::desk::Desk;
 use input::{Lines, line_items};
-use report::{TITLE, print_reader, typed_bytes};
+use report::{TITLE, print_heading, print_reader, typed_bytes};
 use show::{OnScreen, Spelled};
 
 /// Types one line, and prints what comes of it.
@@ -20,7 +20,7 @@ fn type_line(
     let mut reader = Vec::new(heap);
     let mut screen = Vec::new(heap);
     desk.typed(heap, items.as_slice(), &mut reader, &mut screen)?;
-    println!(rt; "Line {number}, of {} typed bytes:", line.len())?;
+    print_heading(rt, number, line)?;
     println!(rt;
         "  the screen shows  {}",
         Spelled::<OnScreen>::new(screen.as_slice())
@@ -32,10 +32,12 @@ fn run(rt: &(impl Input + Print + AllocGlobal)) -> anyhow::Result<()> {
     let typed = typed_bytes(rt)?;
     println!(rt; "{TITLE}")?;
     let mut desk = Desk::new();
+    let mut lines = 0;
     for (number, line) in (1u64..).zip(Lines::new(typed.as_slice())) {
         type_line(rt, &mut desk, number, line)?;
+        lines = number;
     }
-    println!(rt; "Lines typed: {}", Lines::new(typed.as_slice()).count())?;
+    println!(rt; "Lines typed: {lines}")?;
     Ok(())
 }
 
