@@ -14,7 +14,7 @@ use wire::{arrive_some, fetch_all, offer_all, send_all};
 const ANSWER: [Item; 4] = [
     Item::Byte(b'o'),
     Item::Byte(b'k'),
-    Item::Byte(10),
+    Item::Byte(b'\n'),
     Item::End,
 ];
 

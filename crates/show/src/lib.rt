@@ -187,7 +187,12 @@ mod tests {
     #[test]
     fn spells_in_each_style(rt: HostRuntime) -> Result<(), Fail> {
         let heap = rt.alloc();
-        let items = [Item::Byte(b'K'), Item::Byte(10), Item::Note(12), Item::End];
+        let items = [
+            Item::Byte(b'K'),
+            Item::Byte(b'\n'),
+            Item::Note(12),
+            Item::End,
+        ];
         let text = spell::<AsText>(heap, &items)?;
         assert_eq!(rt;
             text.as_str(),
