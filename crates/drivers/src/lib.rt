@@ -4,4 +4,6 @@
 #![tactic(auto)]
 
 pub mod looping;
+#[cfg(test)]
+mod tests;
 pub mod uart;
