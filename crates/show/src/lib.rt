@@ -42,17 +42,28 @@ impl Display for Printable {
 }
 
 /// A way to show items.
-pub trait Style: Display + From<Item> + Drop + Sized {
+pub trait Style {
     ghost shows: { Item → List ℕ };
 
     fn show(heap: Global, item: Item) -> Result<String, AllocError>
-        ensures value { IfOk result (λ s. string_bytes s ≡ shows item) }
-    {
-        Self::from(item).to_string(heap)
-    }
+        ensures value { IfOk result (λ s. string_bytes s ≡ shows item) };
+}
 
-    /// A style made of an item shows that item.
-    ghost shown: { (item : Item) (s : Self) → Self.From.from_gives item s → Self.Display.output s ≡ Some (shows item) };
+/// A way to show items by values that are made of an item and write it.
+pub trait DisplayStyle: Display + From<Item> + Drop + Sized {
+    ghost writes: { Item → List ℕ };
+
+    /// A value made of an item writes that item.
+    ghost written: { (item : Item) (s : Self) → Self.From.from_gives item s → Self.Display.output s ≡ Some (writes item) };
+}
+
+/// It shows what such a value writes.
+impl<S: DisplayStyle> Style for S {
+    ghost shows = { S.DisplayStyle.writes };
+
+    fn show(heap: Global, item: Item) -> Result<String, AllocError> {
+        S::from(item).to_string(heap)
+    }
 }
 
 /// Everything shows.
@@ -79,10 +90,10 @@ impl From<Item> for AsText {
     }
 }
 
-impl Style for AsText {
-    ghost shows = { item_text };
+impl DisplayStyle for AsText {
+    ghost writes = { item_text };
 
-    ghost shown = { λ item s held. ap (λ (x : Item). Some (item_text x)) held };
+    ghost written = { λ item s held. ap (λ (x : Item). Some (item_text x)) held };
 }
 
 /// The ends of records do not show.
@@ -108,10 +119,10 @@ impl From<Item> for OnScreen {
     }
 }
 
-impl Style for OnScreen {
-    ghost shows = { screen_text };
+impl DisplayStyle for OnScreen {
+    ghost writes = { screen_text };
 
-    ghost shown = { λ item s held. ap (λ (x : Item). Some (screen_text x)) held };
+    ghost written = { λ item s held. ap (λ (x : Item). Some (screen_text x)) held };
 }
 
 /// Bytes show as numbers, and nothing else shows.
@@ -137,10 +148,10 @@ impl From<Item> for AsNumbers {
     }
 }
 
-impl Style for AsNumbers {
-    ghost shows = { number_text };
+impl DisplayStyle for AsNumbers {
+    ghost writes = { number_text };
 
-    ghost shown = { λ item s held. ap (λ (x : Item). Some (number_text x)) held };
+    ghost written = { λ item s held. ap (λ (x : Item). Some (number_text x)) held };
 }
 
 /// Some items in a style, one after the other.
@@ -150,7 +161,7 @@ pub struct Spelled<'a, S> {
     style: PhantomData<S>,
 }
 
-impl<'a, S: Style> Spelled<'a, S> {
+impl<'a, S: DisplayStyle> Spelled<'a, S> {
     pub fn new(items: &'a [Item]) -> Self
         ensures items { items_of result ≡ items.now }
     {
@@ -161,8 +172,8 @@ impl<'a, S: Style> Spelled<'a, S> {
     }
 }
 
-impl<S: Style> Display for Spelled<'_, S> {
-    ghost output = { λ s. Some (spelled S.Style.shows (items_of s)) };
+impl<S: DisplayStyle> Display for Spelled<'_, S> {
+    ghost output = { λ s. Some (spelled S.DisplayStyle.writes (items_of s)) };
 
     fn fmt<W: fmt::Write>(&self, f: &mut Formatter<W>) -> fmt::Result {
         for item in self.items {
@@ -172,17 +183,40 @@ impl<S: Style> Display for Spelled<'_, S> {
     }
 }
 
-/// The text of some items.
+/// The text of some items, one after the other. A `Spelled` writes it with no text for each item.
+#[tactic(auto, using(crate::proofs::Spelling::spelled_more))]
 pub fn spell<S: Style>(heap: Global, items: &[Item]) -> Result<String, AllocError>
     ensures value { IfOk result (λ s. string_bytes s ≡ spelled S.Style.shows items.now) }
 {
-    Spelled::<S>::new(items).to_string(heap)
+    let mut text = String::new(heap);
+    for item in items {
+        text.push_str(S::show(heap, *item)?.as_str())?;
+    }
+    Ok(text)
 }
 
 #[cfg(test)]
 mod tests {
     use super::*;
     use std::test::Fail;
+
+    // A style of one's own, with no value that writes.
+    struct Plain;
+
+    impl Style for Plain {
+        ghost shows = { item_text };
+
+        fn show(heap: Global, item: Item) -> Result<String, AllocError> {
+            <AsText as Style>::show(heap, item)
+        }
+    }
+
+    #[test]
+    fn spells_in_a_style_of_ones_own(rt: HostRuntime) -> Result<(), Fail> {
+        let text = spell::<Plain>(rt.alloc(), &[Item::Byte(b'K'), Item::End])?;
+        assert_eq!(rt; text.as_str(), "K<END>");
+        Ok(())
+    }
 
     #[test]
     fn spells_in_each_style(rt: HostRuntime) -> Result<(), Fail> {
