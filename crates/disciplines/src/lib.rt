@@ -10,10 +10,11 @@ ghost use Rattle.disciplines.specs.Raw.{RawPasses};
 use canonical::{CanonicalDown, CanonicalUp};
 use lane::machine::MachineLane;
 use lane::pass::Pass;
+use lane::reply::Silent;
 use level::discipline::TopLanes;
 
 /// Passes every item and echoes nothing.
-pub type Raw = TopLanes<Pass, Pass>;
+pub type Raw = TopLanes<Silent<Pass>, Pass>;
 
 /// Edits a line as it is typed, and echoes it.
 pub type Canonical = TopLanes<CanonicalUp, MachineLane<CanonicalDown>>;

@@ -1,4 +1,4 @@
-use Rattle.std.proofs.Common.{[], take, ap, ◌∙◌, rules}
+use Rattle.std.proofs.Common.{[], take, ap, ◌∙◌}
 use Rattle.item.specs.declared.Item.TheVariants.{Byte}
 use Rattle.lane.specs.Reply.{both, onward, back}
 use Rattle.drive.proofs.Turns.{turn_gives, turn_after, same_states}
