@@ -80,6 +80,7 @@ pub fn line_items(heap: Global, line: &[u8]) -> Result<Vec<Item>, AllocError>
 {
     let mut items = byte_items(heap, line)?;
     if !is_ended(line) {
+        items.reserve_exact(1)?;
         items.push(Item::End)?;
     }
     Ok(items)
