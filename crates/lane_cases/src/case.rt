@@ -1,4 +1,6 @@
 // A case, and how its line is read.
+ghost use Rattle.std.specs.Prelude.{◌≤◌, OnOk, vec_len};
+
 use crate::failure::Failure;
 use item::Item;
 use std::alloc::Global;
@@ -30,8 +32,14 @@ fn parse_items(heap: Global, words: &str) -> Result<Vec<Item>, Failure> {
     let mut items = Vec::new(heap);
     for word in words.split_whitespace() {
         let (group, times) = parse_times(word)?;
-        for _ in 0..times {
-            push_group(group, &mut items)?;
+        if times == 0 {
+            continue;
+        }
+        let first = items.len();
+        push_group(group, &mut items)?;
+        let behind = items.len();
+        for _ in 1..times {
+            items.extend_from_within(first..behind)?;
         }
     }
     Ok(items)
@@ -46,7 +54,9 @@ fn parse_times(word: &str) -> Result<(&str, u16), Failure> {
 }
 
 /// The items of a group go behind others.
-fn push_group(group: &str, items: &mut Vec<Item>) -> Result<(), Failure> {
+fn push_group(group: &str, items: &mut Vec<Item>) -> Result<(), Failure>
+    ensures longer { OnOk result (vec_len items.old ≤ vec_len items.new) }
+{
     for word in group.split('+') {
         items.push(parse_item(word)?)?;
     }

@@ -12,8 +12,28 @@ use level::discipline::Discipline;
 use level::module::Module;
 use std::alloc::Global;
 
-/// All the ways. A step up also echoes, so each way is drained after a step; where nothing is ready, nothing comes out.
-const WAYS: [Way; 3] = [Way::Up, Way::Down(Band::Records), Way::Down(Band::Echo)];
+/// A way that is known when the code is built, so that what is done for each item asks for no way.
+trait Toward {
+    const WAY: Way;
+}
+
+struct Up;
+
+struct Records;
+
+struct Echo;
+
+impl Toward for Up {
+    const WAY: Way = Way::Up;
+}
+
+impl Toward for Records {
+    const WAY: Way = Way::Down(Band::Records);
+}
+
+impl Toward for Echo {
+    const WAY: Way = Way::Down(Band::Echo);
+}
 
 /// Runs a case through the lane that it names, just started.
 pub fn run_case(heap: Global, case: &Case) -> Result<(), Failure> {
@@ -64,34 +84,56 @@ impl<S: Steps + Drop> Run<S> {
         Ok(())
     }
 
-    /// Steps a list through the lane, and gives what comes out. A step is taken, and as long as it has left items ready a
-    /// further one is refused for want of space.
+    /// Steps a list through the lane, and gives what comes out.
     fn through(&mut self, given: &[Item]) -> Result<Vec<Item>, Failure> {
         let mut out = Vec::new(self.heap);
-        for item in given {
-            self.lanes.step(self.way, *item)?;
-            for way in WAYS {
-                if self.lanes.first(way).is_some() {
-                    must(self.lanes.step(self.way, *item) == Err(Refusal::NoSpace))?;
-                }
-                let drained = self.drain(way)?;
-                if way == self.way {
-                    out.extend_from_slice(drained.as_slice())?;
+        let mut aside = Vec::new(self.heap);
+        match self.way {
+            Way::Up => self.up_and_echo::<Up>(given, &mut out, &mut aside)?,
+            Way::Down(Band::Echo) => self.up_and_echo::<Echo>(given, &mut aside, &mut out)?,
+            Way::Down(Band::Records) => {
+                for item in given {
+                    self.lanes.step(Records::WAY, *item)?;
+                    self.drain::<Records, Records>(*item, &mut out)?;
                 }
             }
         }
         Ok(out)
     }
 
-    /// Takes all that is ready to go a way. Each take gives what the question before it told.
-    fn drain(&mut self, way: Way) -> Result<Vec<Item>, Failure> {
-        let mut out = Vec::new(self.heap);
-        while let Some(told) = self.lanes.first(way) {
-            must(self.lanes.take(way) == Some(told))?;
-            out.push(told)?;
+    /// Steps a list up or as an echo. A step up may also echo, so both ways are emptied after each.
+    fn up_and_echo<At: Toward>(
+        &mut self,
+        given: &[Item],
+        up: &mut Vec<Item>,
+        echo: &mut Vec<Item>,
+    ) -> Result<(), Failure> {
+        for item in given {
+            self.lanes.step(At::WAY, *item)?;
+            self.drain::<At, Up>(*item, up)?;
+            self.drain::<At, Echo>(*item, echo)?;
         }
-        must(self.lanes.take(way).is_none())?;
-        Ok(out)
+        Ok(())
+    }
+
+    /// Takes all that a step with an item left ready to go a way, and puts it behind `out`. As long as that is anything, a further step is
+    /// refused for want of space, and takes nothing away: each take gives what the question before it told.
+    fn drain<At: Toward, To: Toward>(
+        &mut self,
+        stepped: Item,
+        out: &mut Vec<Item>,
+    ) -> Result<(), Failure> {
+        let way = To::WAY;
+        let mut told = self.lanes.first(way);
+        if told.is_some() {
+            must(self.lanes.step(At::WAY, stepped) == Err(Refusal::NoSpace))?;
+        }
+        while let Some(item) = self.lanes.take(way) {
+            must(told == Some(item))?;
+            out.push(item)?;
+            told = self.lanes.first(way);
+        }
+        must(told.is_none())
     }
 }
 
