@@ -13,7 +13,7 @@ abbrev turned : {X : Type 0} → ℕ → List X → List X
 turned h xs = drop h xs ++ take h xs
 
 -- a write at the end, with no wrap
-held_put : {X : Type 0} (xs : List X) (h n : ℕ) (x : X) → h ≤ length xs → n < length xs - h → held (set xs (h + n) x) h (n + 1) ≡ held xs h n ++ x ∷ []
+pub held_put : {X : Type 0} (xs : List X) (h n : ℕ) (x : X) → h ≤ length xs → n < length xs - h → held (set xs (h + n) x) h (n + 1) ≡ held xs h n ++ x ∷ []
 held_put xs h n x l m =
     let e : turned h (set xs (h + n) x) ≡ set (turned h xs) n x =
     let lt : n < length (drop h xs) = simp length-drop (omega arith) in
@@ -24,7 +24,7 @@ held_put xs h n x l m =
     ap (take (n + 1)) e ∙ take_more_set (turned h xs) n x k
 
 -- a write at the end, past the last cell
-held_put_low : {X : Type 0} (xs : List X) (h n : ℕ) (x : X) → h ≤ length xs → length xs - h ≤ n → n < length xs → held (set xs (n - (length xs - h)) x) h (n + 1) ≡ held xs h n ++ x ∷ []
+pub held_put_low : {X : Type 0} (xs : List X) (h n : ℕ) (x : X) → h ≤ length xs → length xs - h ≤ n → n < length xs → held (set xs (n - (length xs - h)) x) h (n + 1) ≡ held xs h n ++ x ∷ []
 held_put_low xs h n x l m b =
     let at : ℕ = n - (length xs - h) in
     let e : turned h (set xs at x) ≡ set (turned h xs) n x =
@@ -37,7 +37,7 @@ held_put_low xs h n x l m b =
     ap (take (n + 1)) e ∙ take_more_set (turned h xs) n x k
 
 -- the first leaves, with no wrap
-held_take : {X : Type 0} (xs : List X) (h n : ℕ) (d : X) → h < length xs → 0 < n → n ≤ length xs → held xs h n ≡ get_or xs h d ∷ held xs (h + 1) (n - 1)
+pub held_take : {X : Type 0} (xs : List X) (h n : ℕ) (d : X) → h < length xs → 0 < n → n ≤ length xs → held xs h n ≡ get_or xs h d ∷ held xs (h + 1) (n - 1)
 held_take {X = X} xs h n d l p q =
     let a : turned h xs ≡ get_or xs h d ∷ (drop (h + 1) xs ++ take h xs) = ap (λ (ys : List X). ys ++ take h xs) (drop_more xs h d l) in
     let b : turned (h + 1) xs ≡ (drop (h + 1) xs ++ take h xs) ++ get_or xs h d ∷ [] =
@@ -49,7 +49,7 @@ held_take {X = X} xs h n d l p q =
     ap (λ (m : ℕ). take m (turned h xs)) s ∙ ap (take (suc (n - 1))) a ∙ ap (λ (ys : List X). get_or xs h d ∷ ys) (sym f)
 
 -- turned by all of its length is as not turned
-held_round : {X : Type 0} (xs : List X) (h n : ℕ) → h ≡ length xs → held xs h n ≡ held xs 0 n
+pub held_round : {X : Type 0} (xs : List X) (h n : ℕ) → h ≡ length xs → held xs h n ≡ held xs 0 n
 held_round xs h n e =
     let a : drop h xs ≡ [] = drop_all h xs (omega arith) in
     let b : take h xs ≡ xs = take_all h xs (omega arith) in
@@ -57,18 +57,18 @@ held_round xs h n e =
     ap (take n) (cc)
 
 -- within bounds nothing changes
-held_within : {X : Type 0} (xs : List X) (h n : ℕ) → h < length xs → n ≤ length xs → spanned record { head = h; len = n } xs ≡ held xs h n
+pub held_within : {X : Type 0} (xs : List X) (h n : ℕ) → h < length xs → n ≤ length xs → spanned record { head = h; len = n } xs ≡ held xs h n
 held_within xs h n l m =
     let a : within h (length xs) ≡ h = grind (arith, nat_tests) in
     let b : min n (length xs) ≡ n = omega arith in
     cc
 
 -- there are as many elements as are counted
-length_spanned : {X : Type 0} (s : Span) (xs : List X) → length (spanned s xs) ≡ count_of s (length xs)
+pub length_spanned : {X : Type 0} (s : Span) (xs : List X) → length (spanned s xs) ≡ count_of s (length xs)
 length_spanned s xs = simp (length-take, length-append, length-drop) (grind (arith, nat_tests))
 
 -- the elements, from where they are found to begin
-found : {X : Type 0} (s : Span) (xs : List X) (h n : ℕ) → h ≡ place_of s (length xs) → n ≡ length (spanned s xs) → held xs h n ≡ spanned s xs
+pub found : {X : Type 0} (s : Span) (xs : List X) (h n : ℕ) → h ≡ place_of s (length xs) → n ≡ length (spanned s xs) → held xs h n ≡ spanned s xs
 found s xs h n p q = let e = length_spanned s xs in cc
 
 -- one more at the end
