@@ -1,5 +1,5 @@
 // The terminal at its line.
-ghost use Rattle.std.specs.Prelude.{◌≡◌, ◌≤◌, length, IfOk};
+ghost use Rattle.std.specs.Prelude.{◌≡◌, ◌≤◌, [], length, IfOk};
 ghost use Rattle.bench.specs.Desk.{Started};
 
 use crate::order::print_order;
@@ -8,6 +8,7 @@ use driver::Driver;
 use input::line_items;
 use item::{Band, Item};
 use report::{print_heading, print_reader};
+use std::alloc::Global;
 use wire::{arrive_some, fetch_all, offer_all, send_all};
 
 /// The record that answers a line.
@@ -31,6 +32,17 @@ pub struct Terminal<'a, R, D> {
 struct Report {
     reader: Vec<Item>,
     sent: Vec<(Band, Item)>,
+}
+
+impl Report {
+    fn new(heap: Global) -> Report
+        ensures empty { (result.reader.items ≡ []) × (result.sent.items ≡ []) }
+    {
+        Report {
+            reader: Vec::new(heap),
+            sent: Vec::new(heap),
+        }
+    }
 }
 
 impl<'a, R: Print + AllocGlobal, D: Driver + Drop> Terminal<'a, R, D> {
@@ -57,11 +69,7 @@ impl<'a, R: Print + AllocGlobal, D: Driver + Drop> Terminal<'a, R, D> {
 
     /// Types some items, in as many bursts as it takes.
     fn type_items(&mut self, items: &[Item]) -> anyhow::Result<Report> {
-        let heap = self.rt.alloc();
-        let mut report = Report {
-            reader: Vec::new(heap),
-            sent: Vec::new(heap),
-        };
+        let mut report = Report::new(self.rt.alloc());
         // How long the next burst is shows only when it arrives, so this is no `for`.
         let mut rest = items;
         while !rest.is_empty() {

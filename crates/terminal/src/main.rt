@@ -3,10 +3,32 @@
 // it, also where the frame is damaged on the way. The work is done, and proved, in the crates below; this one prints.
 #![tactic(auto)]
 
+ghost use Rattle.std.specs.Prelude.{◌≡◌, []};
+
 use bench::desk::Desk;
 use input::{Lines, line_items};
+use item::Item;
 use report::{TITLE, print_heading, print_reader, typed_bytes};
 use show::{OnScreen, Spelled};
+use std::alloc::Global;
+
+/// What came of a typed line: what the reader gets, and what the screen shows.
+#[derive(Drop)]
+struct Report {
+    reader: Vec<Item>,
+    screen: Vec<Item>,
+}
+
+impl Report {
+    fn new(heap: Global) -> Report
+        ensures empty { (result.reader.items ≡ []) × (result.screen.items ≡ []) }
+    {
+        Report {
+            reader: Vec::new(heap),
+            screen: Vec::new(heap),
+        }
+    }
+}
 
 /// Types one line, and prints what comes of it.
 fn type_line(
@@ -17,15 +39,19 @@ fn type_line(
 ) -> anyhow::Result<()> {
     let heap = rt.alloc();
     let items = line_items(heap, line)?;
-    let mut reader = Vec::new(heap);
-    let mut screen = Vec::new(heap);
-    desk.typed(heap, items.as_slice(), &mut reader, &mut screen)?;
+    let mut report = Report::new(heap);
+    desk.typed(
+        heap,
+        items.as_slice(),
+        &mut report.reader,
+        &mut report.screen,
+    )?;
     print_heading(rt, number, line)?;
     println!(rt;
         "  the screen shows  {}",
-        Spelled::<OnScreen>::new(screen.as_slice())
+        Spelled::<OnScreen>::new(report.screen.as_slice())
     )?;
-    print_reader(rt, reader.as_slice())
+    print_reader(rt, report.reader.as_slice())
 }
 
 fn run(rt: &(impl Input + Print + AllocGlobal)) -> anyhow::Result<()> {
