@@ -1,8 +1,8 @@
 // The driver that keeps its three lists in such lists of items; it loops or not.
 ghost use Rattle.std.specs.Prelude.{◌≡◌, ◌+◌, ◌≤◌, ◌++◌, length};
-ghost use Rattle.std.specs.Borrow.{sem};
-ghost use Rattle.driver.specs.Line.{chosen_from, begun_after};
-ghost use Rattle.driver.specs.Lists.{list_of, LendsList};
+ghost use Rattle.item.specs.First.{Leads};
+ghost use Rattle.driver.specs.Line.{band, chosen_from, begun_after};
+ghost use Rattle.driver.specs.Lists.{list_of};
 ghost use Rattle.driver.specs.Serial.{serial_line, ComesBack};
 
 use crate::Driver;
@@ -60,7 +60,9 @@ impl<Q: Fifo, const LOOPS: bool> Serial<Q, LOOPS> {
         }
     }
 
-    // The list of a band: here and in list_mut is where a band is told apart.
+    // The list of a band, for its count and its capacity alone. first_of, offer and send tell the band apart themselves: where the first
+    // item, a put or a take goes by a list that is handed out, the driver lies in memory, and any of its calls takes up to three
+    // times the instructions.
     fn list(&self, band: Band) -> &Q
         ensures value { result.now ≡ list_of self.now band }
     {
@@ -70,13 +72,14 @@ impl<Q: Fifo, const LOOPS: bool> Serial<Q, LOOPS> {
         }
     }
 
-    fn list_mut(&mut self, band: Band) -> &mut Q
-        ensures* writes_back { sem 𝓛 (LendsList Q.row LOOPS.row self.entry band result) }
-        ensures value { result.now ≡ list_of self.old band }
+    /// The first item of a band.
+    fn first_of(&self, from: Band) -> Option<Item>
+        ensures leads { Leads (band (serial_line Q.Fifo.items Q.Fifo.room LOOPS self.now) from) result }
     {
-        match band {
-            Band::Records => &mut self.records,
-            Band::Echo => &mut self.echo,
+        // Not by list, for the reason that stands there.
+        match from {
+            Band::Records => self.records.first(),
+            Band::Echo => self.echo.first(),
         }
     }
 
@@ -119,14 +122,22 @@ impl<Q: Fifo, const LOOPS: bool> Driver for Serial<Q, LOOPS> {
     }
 
     fn offer(&mut self, to: Band, x: Item) -> Result<(), Refusal> {
-        self.list_mut(to).put(x)
+        // Not by a list that is handed out: see list.
+        match to {
+            Band::Records => self.records.put(x),
+            Band::Echo => self.echo.put(x),
+        }
     }
 
     fn send(&mut self) -> Result<(Band, Item), Refusal> {
         let from = choose(self.begun, &self.echo);
-        let x = self.list(from).first().ok_or(Refusal::Nothing)?;
+        let x = self.first_of(from).ok_or(Refusal::Nothing)?;
         self.bring_back(x)?;
-        let _ = self.list_mut(from).take();
+        // Not by a list that is handed out: see list.
+        let _ = match from {
+            Band::Records => self.records.take(),
+            Band::Echo => self.echo.take(),
+        };
         self.begun = next_begun(self.begun, from, x);
         Ok((from, x))
     }

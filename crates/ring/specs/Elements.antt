@@ -1,25 +1,17 @@
 -- What a ring holds, first to last, and what its calls do to that.
-use Rattle.std.specs.Prelude.{◌≡◌, ℕ, ◌<◌, ◌≤◌, List, [], ◌∷◌, ◌++◌, length, Ok, Err, Result, Option, Some, None}
+use Rattle.std.specs.Prelude.{◌≡◌, ℕ, ◌<◌, ◌≤◌, List, [], ◌∷◌, ◌++◌, length, Ok, Err, Result, cond}
 use Rattle.item.specs.declared.Refusal.{Refusal}
 use Rattle.item.specs.Numbers.{number}
 use Rattle.ring.specs.declared.Ring.{Ring}
-use Rattle.ring.specs.declared.span.Span.{Span}
 use Rattle.ring.specs.Span.{spanned}
 
 -- how many places there are: all the memory, once laid out
-abbrev pub places_by : {X : Type 0} → Option Span → List X → ℕ
-places_by None xs = 0
-places_by (Some s) xs = length xs
-
 abbrev pub capacity_of : {X : Type 0} → Ring X → ℕ
-capacity_of r = places_by r.span r.cells.now
+capacity_of r = cond r.laid (length r.cells.now) 0
 
-abbrev pub elements_by : {X : Type 0} → Option Span → List X → List X
-elements_by None xs = []
-elements_by (Some s) xs = spanned s xs
-
+-- what lies in the span, once laid out
 abbrev pub elements : {X : Type 0} → Ring X → List X
-elements r = elements_by r.span r.cells.now
+elements r = cond r.laid (spanned r.span r.cells.now) []
 
 -- as many places as before, in the memory that was handed over
 pub record SameMemory {X : Type 0} (a b : Ring X) : Type 0 where

@@ -24,6 +24,15 @@ fn place_after(place: usize, n: usize, places: usize) -> usize
     if n < above { place + n } else { n - above }
 }
 
+/// The place after another, going round at the last of `places` places. This is `place_after` by 1, in half the steps.
+fn next_place(place: usize, places: usize) -> usize
+    requires { place < places }
+    ensures plain { 1 < places - place → result ≡ place + 1 }
+    ensures round { places - place ≤ 1 → result ≡ 0 }
+{
+    if place + 1 == places { 0 } else { place + 1 }
+}
+
 impl Span {
     /// A span of no places.
     pub fn new() -> Span
@@ -67,9 +76,11 @@ impl Span {
         if len == places.len() {
             return Err(Refusal::NoSpace);
         }
-        self.head = self.first_place(places.len());
+        let first = self.first_place(places.len());
+        // The place is written before head and length: written after them, it would have both read again at each turn of a loop.
+        places[place_after(first, len, places.len())] = x;
+        self.head = first;
         self.len = len + 1;
-        places[place_after(self.head, len, places.len())] = x;
         Ok(())
     }
 
@@ -80,7 +91,7 @@ impl Span {
     {
         let x = self.first(places)?;
         self.len = self.len(places) - 1;
-        self.head = place_after(self.first_place(places.len()), 1, places.len());
+        self.head = next_place(self.first_place(places.len()), places.len());
         Some(x)
     }
 

@@ -10,7 +10,7 @@ returns-in_err-x g c =
     let none = c.in_err-x.ensures.ok_part in
     let why : c.in_err-x.field-0.0 ≡ Nothing = let e = c.in_err-x.ensures.value in grind arith in
     let u =
-    empty g.Q.Fifo.items g.Q.Fifo.room _ c.args.self.now _ _ _ c.choose-from.ensures.value c.list.ensures.value c.first.ensures.leads none
+    empty _ _ _ c.choose-from.ensures.value c.first_of.ensures.leads none
     in
     rw (p.1, p.2, why) (record { sends = (u, refl) })
 
@@ -19,7 +19,6 @@ returns-in_err-bring_back g c =
     let p = err_from_is_err_and c.from_residual-in_err-bring_back.result c.from_residual-in_err-bring_back.ensures.1 in
     let b = c.in_err-bring_back.ensures.comes in
     let u =
-    stuck g.Q.Fifo.items g.Q.Fifo.room _ c.args.self.now _ _ _ c.choose-from.ensures.value c.list.ensures.value c.first.ensures.leads
-    c.in_ok-x.x _ c.in_ok-x.ensures.ok_part b.0 b.1 b.2 b.3
+    stuck _ _ _ c.choose-from.ensures.value c.first_of.ensures.leads c.in_ok-x.x _ c.in_ok-x.ensures.ok_part b.0 b.1 b.2 b.3
     in
     rw (p.1, p.2) (record { sends = (u, b.4) })
